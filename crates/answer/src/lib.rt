@@ -1,0 +1,35 @@
+// What the calls answer with: ids, counts, refusals.
+
+// A closed object, numbered from 0 in the order of closing (paper 01: a piece id).
+pub struct ObjectId(pub u32);
+
+// What a session holds.
+pub struct Tally {
+    pub bytes: usize,
+    pub links: usize,
+    pub objects: usize,
+    pub depth: usize,
+}
+
+// A link whose offset does not fit its field: the object that has the field, the field's place in it, and the offset needed.
+pub struct Overflow {
+    pub parent: ObjectId,
+    pub field: usize,
+    pub needed: usize,
+}
+
+pub enum Refusal {
+    NothingOpen,
+    DepthFull,
+    BadWidth,
+    NotClosed,
+    EmptyObject,
+    StoreFull,
+    LinksFull,
+    ObjectsFull,
+    ObjectOpen,
+    OutputShort,
+    Overflow(Overflow),
+    Unsound,
+    OutOfRange,
+}

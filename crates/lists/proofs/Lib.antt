@@ -1,0 +1,4 @@
+pub mod Over
+pub mod Runs
+pub mod Same
+pub mod Tests

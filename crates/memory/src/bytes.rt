@@ -1,0 +1,88 @@
+// Parts of byte slices.
+ghost use mathlib.Core.Path.{_≡_};
+ghost use Prim.Native.Nat.{_+_, _-_, _≤_};
+ghost use lib.Dec.{eqb};
+ghost use lib.ListN.{length, replicate};
+ghost use Rattle.lists.specs.Lists.{part, over, sameList, zeros};
+
+// Zeroes the bytes from `from` up to `end`.
+pub fn clear(s: &mut [u8], from: usize, end: usize)
+    requires { ⌜ (from ≤ end) × (end ≤ length (now s)) ⌝ }
+    ensures { λ _. ⌜ now (s .exit) ≡ over from (replicate (end - from) 0) (now (s .entry)) ⌝ }
+{
+    let mut i = from;
+    while i < end {
+        s[i] = 0;
+        i += 1;
+    }
+}
+
+// Writes all of `src` over the bytes from `at` on.
+pub fn copy(s: &mut [u8], at: usize, src: &[u8])
+    requires { ⌜ at + length (now src) ≤ length (now s) ⌝ }
+    ensures { λ _. ⌜ now (s .exit) ≡ over at (now (src .entry)) (now (s .entry)) ⌝ }
+{
+    let mut i = 0;
+    while i < src.len() {
+        s[at + i] = src[i];
+        i += 1;
+    }
+}
+
+// Copies the n bytes from `from` on up to `to`, from the last one down: the two runs may overlap.
+pub fn move_up(s: &mut [u8], from: usize, to: usize, n: usize)
+    requires { ⌜ (from ≤ to) × (to + n ≤ length (now s)) ⌝ }
+    ensures { λ _. ⌜ now (s .exit) ≡ over to (part from (from + n) (now (s .entry))) (now (s .entry)) ⌝ }
+{
+    let mut i = n;
+    while 0 < i {
+        i -= 1;
+        s[to + i] = s[from + i];
+    }
+}
+
+// Whether the two are as long as each other and hold the same bytes.
+pub fn same(a: &[u8], b: &[u8]) -> bool
+    ensures { λ r. ⌜ r ≡ sameList eqb (now (a .entry)) (now (b .entry)) ⌝ }
+{
+    if a.len() != b.len() {
+        return false;
+    }
+    let mut i = 0;
+    while i < a.len() {
+        if a[i] != b[i] {
+            return false;
+        }
+        i += 1;
+    }
+    true
+}
+
+// Whether every byte is zero: in runs of 4,096 without a branch, so that each is quick and the look still ends early.
+pub fn all_zero(s: &[u8]) -> bool
+    ensures { λ r. ⌜ r ≡ zeros (now (s .entry)) ⌝ }
+{
+    let mut i = 0;
+    while 4096 < s.len() - i {
+        if !run_zero(s, i, i + 4096) {
+            return false;
+        }
+        i += 4096;
+    }
+    run_zero(s, i, s.len())
+}
+
+fn run_zero(s: &[u8], from: usize, end: usize) -> bool
+    requires { ⌜ (from ≤ end) × (end ≤ length (now s)) ⌝ }
+    ensures { λ r. ⌜ r ≡ zeros (part from end (now (s .entry))) ⌝ }
+{
+    let mut clean = true;
+    let mut i = from;
+    while i < end {
+        if s[i] != 0 {
+            clean = false;
+        }
+        i += 1;
+    }
+    clean
+}

@@ -1,0 +1,79 @@
+-- An object's bytes with its fields filled.
+use mathlib.Core.Path.{_≡_, refl, sym, ap, _∙_}
+use Prim.Native.Nat.{ℕ, _+_, _-_, _≤_, _<_}
+use mathlib.Core.List.{List, [], _∷_, _++_, append-assoc}
+use mathlib.Core.Logic.{_⊎_, inl, inr}
+use native.Mathlib.Omega.{arith}
+use lib.ListN.{length, take, drop, getD, length-append, take-append-drop}
+use lib.Seq.{take-at, drop-at, length-take-le}
+use Rattle.lists.specs.Lists.{part, over}
+use Rattle.lists.proofs.Over.{length-over, over-take}
+use Rattle.field.specs.BigEndian.{bigEndian}
+use Rattle.field.proofs.Laws.{length-big, field-before, field-after}
+use Rattle.model.specs.Object.{Link}
+use Rattle.model.specs.Table.{filled, FieldsIn}
+
+-- what ends a front of a list
+front-part : (f x b : List ℕ) (a w : ℕ) → take (a + w) f ≡ x ++ b → length x ≡ a → length b ≡ w → part a (a + w) f ≡ b
+front-part f x b a w e h k =
+    let n : a + w - a ≡ w = omega arith in
+    ap (λ (m : ℕ). take m (drop a f)) n
+    ∙ ap (λ (z : List ℕ). take w (drop a z)) (sym (take-append-drop (a + w) f) ∙ ap (λ (z : List ℕ). z ++ drop (a + w) f) e ∙ append-assoc x b (drop (a + w) f))
+    ∙ ap (take w) (drop-at x (b ++ drop (a + w) f) a h) ∙ take-at b (drop (a + w) f) w k
+
+-- no field of ls has place k
+unfoldable pub Clear : ℕ → List Link → Type 0
+Clear k [] = Unit {0}
+Clear k (l ∷ ls) = ((k < l .at) ⊎ (l .at + l .width ≤ k)) × Clear k ls
+
+module _ (off : Link → ℕ) where
+  -- one field written
+  unfoldable pub wrote : Link → List ℕ → List ℕ
+  wrote l bs = over (l .at) (bigEndian (l .width) (off l)) bs
+
+  inside : (l : Link) (bs : List ℕ) → l .at + l .width ≤ length bs → l .at + length (bigEndian (l .width) (off l)) ≤ length bs
+  inside l bs h = rw length-big h
+
+  pub length-wrote : (l : Link) (bs : List ℕ) → l .at + l .width ≤ length bs → length (wrote l bs) ≡ length bs
+  unfolding wrote
+  length-wrote l bs h = length-over (l .at) (bigEndian (l .width) (off l)) bs (inside l bs h)
+
+  pub length-filled : (from n : ℕ) (ls : List Link) (bs : List ℕ) → length bs ≡ n → FieldsIn from n ls → length (filled off ls bs) ≡ n
+  unfolding filled FieldsIn wrote
+  length-filled from n [] bs e f = e
+  length-filled from n (l ∷ ls) bs e f = length-filled (l .at + l .width) n ls (wrote l bs) (length-wrote l bs (omega (arith, f .1)) ∙ e) (f .2)
+
+  -- bytes outside the fields stand
+  pub filled-clear : (from n k : ℕ) (ls : List Link) (bs : List ℕ) → length bs ≡ n → FieldsIn from n ls → Clear k ls → getD (filled off ls bs) k 0 ≡ getD bs k 0
+  unfolding filled FieldsIn Clear wrote
+  filled-clear from n k [] bs e f c = refl
+  filled-clear from n k (l ∷ ls) bs e f c =
+      let h : l .at + l .width ≤ length bs = omega (arith, f .1) in
+      filled-clear (l .at + l .width) n k ls (wrote l bs) (length-wrote l bs h ∙ e) (f .2) (c .1) ∙ go h (c .0)
+    where
+      go : l .at + l .width ≤ length bs → (k < l .at) ⊎ (l .at + l .width ≤ k) → getD (wrote l bs) k 0 ≡ getD bs k 0
+      go h (inl a) = field-before (l .at) (l .width) (off l) bs h k a
+      go h (inr a) = field-after (l .at) (l .width) (off l) bs h k a
+
+  -- the bytes before the first field stand
+  filled-front : (from n m : ℕ) (ls : List Link) (bs : List ℕ) → m ≤ from → length bs ≡ n → FieldsIn from n ls → take m (filled off ls bs) ≡ take m bs
+  unfolding filled FieldsIn wrote
+  filled-front from n m [] bs h e f = refl
+  filled-front from n m (l ∷ ls) bs h e f =
+      let k : l .at + l .width ≤ length bs = omega (arith, f .1) in
+      filled-front (l .at + l .width) n m ls (wrote l bs) (omega (arith, f .0)) (length-wrote l bs k ∙ e) (f .2)
+      ∙ over-take (l .at) (bigEndian (l .width) (off l)) bs (inside l bs k) m (omega (arith, f .0))
+
+  -- and the first field holds its offset
+  pub filled-field : (from n : ℕ) (l : Link) (ls : List Link) (bs : List ℕ) → length bs ≡ n → FieldsIn from n (l ∷ ls)
+      → part (l .at) (l .at + l .width) (filled off (l ∷ ls) bs) ≡ bigEndian (l .width) (off l)
+  unfolding filled FieldsIn wrote over
+  filled-field from n l ls bs e f =
+      let b = length-big (l .width) (off l) in
+      let k : l .at + l .width ≤ length bs = omega (arith, f .1) in
+      let q : length (take (l .at) bs) ≡ l .at = length-take-le (l .at) bs (omega arith) in
+      let front : take (l .at + l .width) (filled off ls (wrote l bs)) ≡ take (l .at) bs ++ bigEndian (l .width) (off l) =
+      filled-front (l .at + l .width) n (l .at + l .width) ls (wrote l bs) (omega arith) (length-wrote l bs k ∙ e) (f .2)
+      ∙ ap (λ (z : List ℕ). take (l .at + l .width) z) (sym (append-assoc (take (l .at) bs) (bigEndian (l .width) (off l)) _))
+      ∙ take-at (take (l .at) bs ++ bigEndian (l .width) (off l)) _ (l .at + l .width) (omega (arith, length-append (take (l .at) bs) (bigEndian (l .width) (off l)))) in
+      front-part (filled off ls (wrote l bs)) (take (l .at) bs) (bigEndian (l .width) (off l)) (l .at) (l .width) front q b

@@ -1,0 +1,11 @@
+pub mod Bags
+pub mod Waits
+pub mod Reach
+pub mod Orders
+pub mod Before
+pub mod Distances
+pub mod Filled
+pub mod Tables
+pub mod Readings
+pub mod SameReading
+pub mod Lengths

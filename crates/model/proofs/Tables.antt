@@ -1,0 +1,212 @@
+-- The layout theorem: of any order of the objects below a root, each once, parents first, in which every offset fits, the table shows the
+-- root's reading from its first byte, every child lies behind its parent, and the length is the sum of the sizes.
+use mathlib.Core.Path.{_≡_, refl, sym, ap, _∙_}
+use Prim.Native.Nat.{ℕ, _+_, _-_, _≤_, _<_}
+use mathlib.Core.List.{List, [], _∷_, _++_, append-assoc}
+use mathlib.Core.Bool.{Bool, true, false}
+use native.Mathlib.Omega.{arith}
+use lib.ListN.{length, take, drop, getD, length-append, length-drop, List·getD-append}
+use lib.Seq.{take-append-le, drop-append-le, drop-append-add, getD-append-add}
+use Rattle.lists.specs.Lists.{pick, part, total}
+use Rattle.answer.specs.declared.Overflow.{Overflow}
+use Rattle.field.specs.BigEndian.{fits, bigEndian, readBig}
+use Rattle.field.proofs.Laws.{big-read}
+use Rattle.model.specs.Bag.{count}
+use Rattle.model.specs.Object.{Link}
+use Rattle.model.specs.Graph.{Graph, kids, kidsOf, Closed, ParentsFirst, Rooted}
+use Rattle.model.specs.Reading.{Reading, bytes, field, bytesOf, readLinks, Reads, Outside, Own, target, FieldsShow, Shows}
+use Rattle.model.specs.Table.{placeOf, offset, unfitLinks, unfitFrom, unfit, filled, objectBytes, tableFrom, tableOf, FieldsIn, Fields, Sized}
+use Rattle.model.proofs.Bags.{Same, same, other, sameOr, one-same, total-bag}
+use Rattle.model.proofs.Before.{before-here, before-next, before-behind, before-root}
+use Rattle.model.proofs.Filled.{wrote, length-wrote, Clear, length-filled, filled-clear, filled-field}
+
+-- ---- the table around an object
+
+module _ (g : Graph) (content : ℕ → List ℕ) (place : ℕ → ℕ) (sized : Sized g content) (fs : Fields g) where
+  pub object-length : (i : ℕ) → length (objectBytes g content place i) ≡ g .size i
+  unfolding objectBytes Fields Sized
+  object-length i = length-filled (offset place i) 0 (g .size i) (g .links i) (content i) (sized i) (fs i)
+
+  pub table-length : (o : List ℕ) → length (tableFrom g content place o) ≡ total (g .size) o
+  unfolding tableFrom total
+  table-length [] = refl
+  table-length (x ∷ o) = omega (arith, length-append (objectBytes g content place x) (tableFrom g content place o), object-length x, table-length o)
+
+  pub record Around (o : List ℕ) (i : ℕ) : Type 0 where
+    pub front : List ℕ
+    pub back : List ℕ
+    pub whole : tableFrom g content place o ≡ front ++ (objectBytes g content place i ++ back)
+    pub at : length front ≡ placeOf g o i
+
+  pub around : (o : List ℕ) (i : ℕ) → 0 < count i o → Around o i
+  unfolding tableFrom count
+  around [] i h = absurd (omega arith)
+  around (x ∷ o) i h = go (around o i) (sameOr i x)
+    where
+      go : (0 < count i o → Around o i) → Same i x → Around (x ∷ o) i
+      go r (same e _ _) = record { front = []; back = tableFrom g content place o; whole = rw e; at = rw e (sym (before-here (g .size) x o)) }
+      go r (other n _ z) =
+          let a = r (omega arith) in
+          record {
+            front = objectBytes g content place x ++ a .front;
+            back = a .back;
+            whole = ap (λ (l : List ℕ). objectBytes g content place x ++ l) (a .whole) ∙ sym (append-assoc (objectBytes g content place x) (a .front) _);
+            at = omega (arith, length-append (objectBytes g content place x) (a .front), object-length x, a .at, before-next (g .size) x o i n);
+          }
+
+-- ---- part of a list in the middle
+
+module _ (a f c : List ℕ) (p : ℕ) (e : length a ≡ p) where
+  mid-getD : (k : ℕ) → k < length f → getD (a ++ (f ++ c)) (p + k) 0 ≡ getD f k 0
+  mid-getD k h = rw (← e) (getD-append-add a (f ++ c) k 0 ∙ List·getD-append f c 0 k h)
+
+  mid-part : (k w : ℕ) → k + w ≤ length f → part (p + k) (p + k + w) (a ++ (f ++ c)) ≡ part k (k + w) f
+  mid-part k w h =
+      let n : p + k + w - (p + k) ≡ w = omega arith in
+      let m : k + w - k ≡ w = omega arith in
+      ap (λ (j : ℕ). take j (drop (p + k) (a ++ (f ++ c)))) n
+      ∙ rw (← e) (ap (take w) (drop-append-add a (f ++ c) k ∙ drop-append-le k f c (omega arith)) ∙ take-append-le w (drop k f) c (omega (arith, length-drop k f)))
+      ∙ ap (λ (j : ℕ). take j (drop k f)) (sym m)
+
+-- ---- the links that fit
+
+unfoldable pub Fit : (Link → ℕ) → List Link → Type 0
+Fit off [] = Unit {0}
+Fit off (l ∷ ls) = (fits (l .width) (off l) ≡ true) × Fit off ls
+
+left-nil : (a b : List Overflow) → a ++ b ≡ [] → a ≡ []
+left-nil [] b e = refl
+left-nil (x ∷ a) b e = cc
+
+right-nil : (a b : List Overflow) → a ++ b ≡ [] → b ≡ []
+right-nil [] b e = e
+right-nil (x ∷ a) b e = cc
+
+pub links-fit : (place : ℕ → ℕ) (p : ℕ) (ls : List Link) → unfitLinks place p ls ≡ [] → Fit (offset place p) ls
+unfolding unfitLinks Fit
+links-fit place p [] e = tt
+links-fit place p (l ∷ ls) e = go (links-fit place p ls) (fits (l .width) (offset place p l)) refl e
+  where
+    go : (unfitLinks place p ls ≡ [] → Fit (offset place p) ls) → (b : Bool) → fits (l .width) (offset place p l) ≡ b
+        → pick b (unfitLinks place p ls) (record { parent = record { 0 = p }; field = l .at; needed = offset place p l } ∷ unfitLinks place p ls) ≡ []
+        → (fits (l .width) (offset place p l) ≡ true) × Fit (offset place p) ls
+    go i true h f = (h, i f)
+    go i false h f = absurd (let z : _≡_ {A = ℕ} 0 1 = cc in omega arith)
+
+pub objects-fit : (g : Graph) (place : ℕ → ℕ) (o : List ℕ) (i : ℕ) → 0 < count i o → unfitFrom g place o ≡ [] → Fit (offset place i) (g .links i)
+unfolding unfitFrom count
+objects-fit g place [] i h e = absurd (omega arith)
+objects-fit g place (x ∷ o) i h e = go (objects-fit g place o i) (sameOr i x)
+  where
+    go : (0 < count i o → unfitFrom g place o ≡ [] → Fit (offset place i) (g .links i)) → Same i x → Fit (offset place i) (g .links i)
+    go r (same f _ _) = rw f (links-fit place x (g .links x) (left-nil (unfitLinks place x (g .links x)) (unfitFrom g place o) e))
+    go r (other _ _ z) = r (omega arith) (right-nil (unfitLinks place x (g .links x)) (unfitFrom g place o) e)
+
+-- ---- readings
+
+pub read-bytes : (ρ : ℕ → Reading) (ls : List Link) (b : List ℕ) → bytesOf (readLinks ρ ls b) ≡ b
+unfolding readLinks bytesOf
+read-bytes ρ [] b = refl
+read-bytes ρ (l ∷ ls) b = read-bytes ρ ls b
+
+outside-clear : (ρ : ℕ → Reading) (k : ℕ) (ls : List Link) (b : List ℕ) → Outside k (readLinks ρ ls b) → Clear k ls
+unfolding readLinks Outside Clear
+outside-clear ρ k [] b h = tt
+outside-clear ρ k (l ∷ ls) b h = (h .0, outside-clear ρ k ls b (h .1))
+
+-- ---- every object is shown at its place
+
+module _ (g : Graph) (content : ℕ → List ℕ) (o : List ℕ) (ρ : ℕ → Reading) (sized : Sized g content) (fs : Fields g) (closed : Closed g o)
+    (first : ParentsFirst g o) (fit : unfit g o ≡ []) (reads : Reads g content ρ) where
+  here : (i : ℕ) → 0 < count i o → Around g content (placeOf g o) sized fs o i
+  here i h = around g content (placeOf g o) sized fs o i h
+
+  object-room : (i : ℕ) → 0 < count i o → placeOf g o i + g .size i ≤ length (tableOf g content o)
+  unfolding tableOf here
+  object-room i h =
+      let a = here i h in
+      let b = objectBytes g content (placeOf g o) i in
+      rw (a .whole) (omega (arith, length-append (a .front) (b ++ a .back), length-append b (a .back), object-length g content (placeOf g o) sized fs i, a .at))
+
+  own : (i : ℕ) → 0 < count i o → Own (tableOf g content o) (placeOf g o i) (ρ i)
+  unfolding tableOf Reads objectBytes Fields Sized here
+  own i h =
+      let b = read-bytes ρ (g .links i) (content i) in
+      rw (reads i) record {
+        room = rw b (rw (sized i) (object-room i h));
+        agree = λ k m u. rw b (same-byte k (rw b at m) (outside-clear ρ k (g .links i) (content i) u));
+      }
+    where
+      same-byte : (k : ℕ) → k < length (content i) → Clear k (g .links i) → getD (tableFrom g content (placeOf g o) o) (placeOf g o i + k) 0 ≡ getD (content i) k 0
+      same-byte k m c =
+          let a = here i h in
+          rw (a .whole) (mid-getD (a .front) (objectBytes g content (placeOf g o) i) (a .back) (placeOf g o i) (a .at) k (omega (arith, object-length g content (placeOf g o) sized fs i, sized i))
+          ∙ filled-clear (offset (placeOf g o) i) 0 (g .size i) k (g .links i) (content i) (sized i) (fs i) c)
+
+  -- a field of object i, where those before it are written over its bytes: bs
+  field-holds : (i : ℕ) → 0 < count i o → (from : ℕ) (l : Link) (ls : List Link) (bs : List ℕ) → length bs ≡ g .size i → FieldsIn from (g .size i) (l ∷ ls)
+      → objectBytes g content (placeOf g o) i ≡ filled (offset (placeOf g o) i) (l ∷ ls) bs → fits (l .width) (offset (placeOf g o) i l) ≡ true
+      → readBig (part (placeOf g o i + l .at) (placeOf g o i + l .at + l .width) (tableOf g content o)) ≡ offset (placeOf g o) i l
+  unfolding tableOf FieldsIn here
+  field-holds i h from l ls bs e f w u =
+      let a = here i h in
+      ap readBig (rw (a .whole) (mid-part (a .front) (objectBytes g content (placeOf g o) i) (a .back) (placeOf g o i) (a .at) (l .at) (l .width) (omega (arith, f .1, object-length g content (placeOf g o) sized fs i)))
+      ∙ ap (λ (z : List ℕ). part (l .at) (l .at + l .width) z) w
+      ∙ filled-field (offset (placeOf g o) i) from (g .size i) l ls bs e f)
+      ∙ big-read (l .width) (offset (placeOf g o) i l) u
+
+  field-leads : (i : ℕ) → 0 < count i o → (from : ℕ) (l : Link) (ls : List Link) (bs : List ℕ) → length bs ≡ g .size i → FieldsIn from (g .size i) (l ∷ ls)
+      → objectBytes g content (placeOf g o) i ≡ filled (offset (placeOf g o) i) (l ∷ ls) bs → fits (l .width) (offset (placeOf g o) i l) ≡ true
+      → placeOf g o i ≤ placeOf g o (l .child) → target (tableOf g content o) (placeOf g o i) (l .at) (l .width) ≡ placeOf g o (l .child)
+  unfolding offset
+  field-leads i h from l ls bs e f w u b = rw (field-holds i h from l ls bs e f w u) (omega arith)
+
+  fields-show : (r : Reading) (i : ℕ) → 0 < count i o → (from : ℕ) (ls : List Link) (bs : List ℕ) → length bs ≡ g .size i → FieldsIn from (g .size i) ls
+      → objectBytes g content (placeOf g o) i ≡ filled (offset (placeOf g o) i) ls bs → Fit (offset (placeOf g o) i) ls
+      → ((c : ℕ) → 0 < count c (kidsOf ls) → 0 < count c (kids g i))
+      → r ≡ readLinks ρ ls (content i) → FieldsShow (tableOf g content o) (placeOf g o i) r
+  unfolding FieldsShow readLinks filled FieldsIn Fit kidsOf count Fields Reads Closed objectBytes Sized wrote
+  fields-show (bytes b) i h from ls bs e f w u k q = tt
+  fields-show (field a v c r) i h from [] bs e f w u k q = absurd (let z : _≡_ {A = ℕ} 0 1 = cc in omega arith)
+  fields-show (field a v c r) i h from (l ∷ ls) bs e f w u k q =
+      let x = l .child in
+      let ea : a ≡ l .at = cc in
+      let ev : v ≡ l .width = cc in
+      let ec : c ≡ ρ x = cc in
+      let er : r ≡ readLinks ρ ls (content i) = cc in
+      let kx : 0 < count x (kids g i) = k x (omega (arith, one-same x)) in
+      let hx : 0 < count x o = closed i x h kx in
+      let tg : target (tableOf g content o) (placeOf g o i) a v ≡ placeOf g o x =
+      rw (ea, ev) (field-leads i h from l ls bs e f w (u .0) (omega (arith, before-behind (g .size) g o first i x h kx))) in (
+        rw (ea, ev) (omega (arith, object-room i h, f .1)),
+        rw (tg, ec) (own x hx),
+        rw tg (fields-show c x hx 0 (g .links x) (content x) (sized x) (fs x) refl (objects-fit g (placeOf g o) o x hx fit) (λ z m. m) (ec ∙ reads x)),
+        fields-show r i h (l .at + l .width) ls (wrote (offset (placeOf g o) i) l bs) (length-wrote (offset (placeOf g o) i) l bs (omega (arith, f .1)) ∙ e) (f .2) w (u .1) (λ z m. k z (omega arith)) er,
+      )
+
+  pub shows : (i : ℕ) → 0 < count i o → Shows (tableOf g content o) (placeOf g o i) (ρ i)
+  unfolding Fields Reads objectBytes Sized
+  shows i h = (own i h, fields-show (ρ i) i h 0 (g .links i) (content i) (sized i) (fs i) refl (objects-fit g (placeOf g o) o i h fit) (λ z m. m) (reads i))
+
+-- ---- the theorem
+
+pub record LaidOut (g : Graph) (nodes : List ℕ) (root : ℕ) (ρ : ℕ → Reading) (o t : List ℕ) : Type 0 where
+  pub shown : Shows t 0 (ρ root)
+  pub each : (i : ℕ) → 0 < count i nodes → Shows t (placeOf g o i) (ρ i)
+  pub sum : length t ≡ total (g .size) nodes
+  pub behind : (p c : ℕ) → 0 < count p nodes → 0 < count c (kids g p) → placeOf g o p + g .size p ≤ placeOf g o c
+
+pub layout : (g : Graph) (content : ℕ → List ℕ) (nodes : List ℕ) (root : ℕ) (ρ : ℕ → Reading) (o : List ℕ) → Rooted g nodes root → Sized g content → Fields g → Reads g content ρ
+    → ((c : ℕ) → count c o ≡ count c nodes) → ParentsFirst g o → unfit g o ≡ [] → LaidOut g nodes root ρ o (tableOf g content o)
+layout g content nodes root ρ o r sized fs reads bag first fit = record {
+  shown = rw (before-root (g .size) g nodes root o r bag first) at (all root (r .root-in));
+  each = all;
+  sum = unfold tableOf in (table-length g content (placeOf g o) sized fs o ∙ total-bag (g .size) o nodes bag);
+  behind = λ p c h k. before-behind (g .size) g o first p c (omega (arith, bag p)) k;
+}
+  where
+    closed : Closed g o
+    closed = unfold Closed in λ p c h k. omega (arith, bag c, r .closed p c (omega (arith, bag p)) k)
+
+    all : (i : ℕ) → 0 < count i nodes → Shows (tableOf g content o) (placeOf g o i) (ρ i)
+    all i h = shows g content o ρ sized fs closed first fit reads i (omega (arith, bag i))

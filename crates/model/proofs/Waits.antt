@@ -1,0 +1,50 @@
+-- How many fields still lead to an object.
+use mathlib.Core.Path.{_≡_, refl, sym, ap, _∙_}
+use Prim.Native.Nat.{ℕ, zero, suc, _+_, _-_, _≤_, _<_}
+use mathlib.Core.List.{List, [], _∷_, _++_}
+use mathlib.Core.Bool.{Bool, true, false}
+use native.Mathlib.Omega.{arith}
+use native.Mathlib.Decide.{decLe}
+use lib.ListN.{length}
+use lib.Dec.{eqb}
+use borrow.Author.Tests.{eq-eqb, ne-eqb}
+use Rattle.lists.specs.Lists.{pick, total}
+use Rattle.model.specs.Bag.{one, count, without, zerosOf, lastOnce, least}
+use Rattle.model.specs.Graph.{Graph, kids, waits, reached, reachDown, Ranked, Acyclic, Closed, Once, ParentsFirst, Rooted}
+use Rattle.model.proofs.Bags.{Same, same, other, sameOr, Zero, none, some, zeroOr, one-same, one-eq, one-other, count-here, count-append, count-without, length-without, total-without, total-part, total-bag, total-from, one-part, count-zerosOf, count-lastOnce, least-in, Top, top-of}
+
+pub waits-without : (g : Graph) (x c : ℕ) (l : List ℕ) → 0 < count x l → waits g (without x l) c + count c (kids g x) ≡ waits g l c
+unfolding waits
+waits-without g x c l h = total-without (λ p. count c (kids g p)) x l h
+
+pub waits-part : (g : Graph) (p c : ℕ) (l : List ℕ) → 0 < count p l → count c (kids g p) ≤ waits g l c
+unfolding waits
+waits-part g p c l h = total-part (λ p. count c (kids g p)) p l h
+
+-- nothing that ranks no higher leads to c
+pub waits-low : (rank : ℕ → ℕ) (g : Graph) (l : List ℕ) (c : ℕ) → Ranked rank g → ((p : ℕ) → 0 < count p l → rank p ≤ rank c) → waits g l c ≡ 0
+unfolding waits Ranked
+waits-low rank g l c y h = go (zeroOr (total (λ p. count c (kids g p)) l))
+  where
+    go : Zero (total (λ p. count c (kids g p)) l) → total (λ p. count c (kids g p)) l ≡ 0
+    go (none e _) = e
+    go (some z _) = let r = total-from (λ p. count c (kids g p)) l z in absurd (omega (arith, y (r .0) c (r .2), h (r .0) (r .1)))
+
+-- nothing left leads to c exactly when all its parents are placed
+module _ (g : Graph) (nodes placed left : List ℕ) (split : (p : ℕ) → count p placed + count p left ≡ count p nodes) (once : Once nodes) (c : ℕ) where
+  pub parents-placed : waits g left c ≡ 0 → (p : ℕ) → 0 < count p nodes → 0 < count c (kids g p) → 0 < count p placed
+  parents-placed w p h k = go (zeroOr (count p left))
+    where
+      go : Zero (count p left) → 0 < count p placed
+      go (none e _) = omega (arith, split p)
+      go (some e _) = absurd (omega (arith, waits-part g p c left e))
+
+  pub placed-ready : ((p : ℕ) → 0 < count p nodes → 0 < count c (kids g p) → 0 < count p placed) → waits g left c ≡ 0
+  unfolding waits Once
+  placed-ready h = go (zeroOr (total (λ p. count c (kids g p)) left))
+    where
+      go : Zero (total (λ p. count c (kids g p)) left) → total (λ p. count c (kids g p)) left ≡ 0
+      go (none e _) = e
+      go (some z _) =
+          let r = total-from (λ p. count c (kids g p)) left z in
+          absurd (omega (arith, split (r .0), once (r .0), r .1, h (r .0) (omega (arith, split (r .0), r .1)) (r .2)))

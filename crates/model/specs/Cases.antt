@@ -1,0 +1,201 @@
+-- Paper 01, "Counted by hand": the ten cases marked P, on the abstract session, by one claim over a list of them.
+use Prim.Native.Nat.{ℕ}
+use mathlib.Core.Path.{_≡_, refl}
+use mathlib.Core.List.{List, [], _∷_, _++_}
+use mathlib.Core.Bool.{Bool, true, _&&_}
+use lib.Dec.{eqb}
+use Rattle.lists.specs.Lists.{sameList, total, firstThat, over, holds}
+use Rattle.field.specs.BigEndian.{bigEndian}
+use Rattle.model.specs.Bag.{one, count, without, zerosOf, lastOnce, least}
+use Rattle.model.specs.Graph.{kidsOf, waits, reachDown, reached}
+use Rattle.model.specs.Order.{orderFrom, orderBy}
+use Rattle.model.specs.Distance.{relax, relaxAll, distancesBy, beyond, distance, kahnOrder, distanceOrder}
+use Rattle.model.specs.Table.{before, offset, unfitLinks, unfitFrom, tryOrder, tryLast, firstFit, arranged, tableLength, filled, objectBytes, tableFrom, tableOf}
+use Rattle.model.specs.Judge.{Limits, Needs, verdict}
+use Rattle.model.specs.Session.{Session, started, tallyOf, SessionCall, startCall, openCall, putCall, linkCall, closeCall, dropCall, tallyCall, step, pack, Call, sessionCall, packCall, afterCall}
+
+-- from a fresh session: the number that each call tells, the id of each close, the four counts at the end, and all tables
+pub record Case : Type 0 where
+  pub limits : Limits
+  pub calls : List Call
+  pub numbers : List ℕ
+  pub ids : List ℕ
+  pub counts : List ℕ
+  pub table : List ℕ
+
+-- ---- what a list of calls tells
+
+-- the needs of lent memory play no part here
+abbrev noNeeds : Needs
+noNeeds = record { records = λ p l. 0; work = λ p l. 0 }
+
+unfoldable pub numbersOf : List Call → Session → List ℕ
+numbersOf [] s = []
+numbersOf (sessionCall c ∷ cs) s = step noNeeds c s .told .number ∷ numbersOf cs (step noNeeds c s .after)
+numbersOf (packCall id out work ∷ cs) s = pack noNeeds id out work s .told .number ∷ numbersOf cs s
+
+abbrev idsIn : SessionCall → ℕ → List ℕ
+idsIn (startCall m records) i = []
+idsIn openCall i = []
+idsIn (putCall vs) i = []
+idsIn (linkCall w id) i = []
+idsIn closeCall i = i ∷ []
+idsIn dropCall i = []
+idsIn tallyCall i = []
+
+unfoldable pub idsOf : List Call → Session → List ℕ
+idsOf [] s = []
+idsOf (sessionCall c ∷ cs) s = idsIn c (step noNeeds c s .told .id) ++ idsOf cs (step noNeeds c s .after)
+idsOf (packCall id out work ∷ cs) s = idsOf cs s
+
+unfoldable pub countsOf : List Call → Session → List ℕ
+countsOf [] s = let t = tallyOf s in t .bytes ∷ t .links ∷ t .objects ∷ t .depth ∷ []
+countsOf (c ∷ cs) s = countsOf cs (afterCall noNeeds c s)
+
+unfoldable pub tablesOf : List Call → Session → List ℕ
+tablesOf [] s = []
+tablesOf (sessionCall c ∷ cs) s = tablesOf cs (step noNeeds c s .after)
+tablesOf (packCall id out work ∷ cs) s = pack noNeeds id out work s .table ++ tablesOf cs s
+
+unfoldable pub right : Case → Bool
+right c =
+    let s = started (c .limits) in
+    sameList eqb (numbersOf (c .calls) s) (c .numbers)
+    && (sameList eqb (idsOf (c .calls) s) (c .ids)
+    && (sameList eqb (countsOf (c .calls) s) (c .counts) && sameList eqb (tablesOf (c .calls) s) (c .table)))
+
+unfoldable pub allRight : List Case → Bool
+allRight [] = true
+allRight (c ∷ cs) = right c && allRight cs
+
+-- ---- the cases
+
+abbrev limitsOf : ℕ → ℕ → ℕ → Limits
+limitsOf p l b = record { objects = p; links = l; bytes = b }
+
+abbrev opens : Call
+opens = sessionCall openCall
+
+abbrev puts : List ℕ → Call
+puts vs = sessionCall (putCall vs)
+
+abbrev links : ℕ → ℕ → Call
+links w id = sessionCall (linkCall w id)
+
+abbrev closes : Call
+closes = sessionCall closeCall
+
+abbrev drops : Call
+drops = sessionCall dropCall
+
+abbrev tallies : Call
+tallies = sessionCall tallyCall
+
+-- an object of these bytes and no link
+abbrev leaf : List ℕ → List Call
+leaf vs = opens ∷ puts vs ∷ closes ∷ []
+
+-- HarfBuzz's graph, up to the last link
+abbrev four : List Call
+four =
+    leaf (0x64 ∷ [])
+    ++ (opens ∷ puts (0x62 ∷ []) ∷ links 2 0 ∷ closes ∷ [])
+    ++ leaf (0x64 ∷ [])
+    ++ (opens ∷ puts (0x63 ∷ []) ∷ links 2 0 ∷ closes ∷ [])
+    ++ (opens ∷ puts (0x61 ∷ []) ∷ links 2 1 ∷ links 2 2 ∷ [])
+
+abbrev pub cases : List Case
+cases =
+    record {
+      limits = limitsOf 8 8 64;
+      calls = four ++ (closes ∷ packCall 3 12 0 ∷ []);
+      numbers = 0 ∷ 0 ∷ 0 ∷ 0 ∷ 0 ∷ 0 ∷ 0 ∷ 0 ∷ 0 ∷ 0 ∷ 0 ∷ 0 ∷ 0 ∷ 0 ∷ 0 ∷ 0 ∷ 0 ∷ 0 ∷ 0 ∷ 0 ∷ [];
+      ids = 0 ∷ 1 ∷ 0 ∷ 2 ∷ 3 ∷ [];
+      counts = 12 ∷ 4 ∷ 4 ∷ 0 ∷ [];
+      table = 0x61 ∷ 0x00 ∷ 0x05 ∷ 0x00 ∷ 0x08 ∷ 0x62 ∷ 0x00 ∷ 0x06 ∷ 0x63 ∷ 0x00 ∷ 0x03 ∷ 0x64 ∷ [];
+    }
+    ∷ record {
+      limits = limitsOf 8 8 11;
+      calls = four;
+      numbers = 0 ∷ 0 ∷ 0 ∷ 0 ∷ 0 ∷ 0 ∷ 0 ∷ 0 ∷ 0 ∷ 0 ∷ 0 ∷ 0 ∷ 0 ∷ 0 ∷ 0 ∷ 0 ∷ 0 ∷ 6 ∷ [];
+      ids = 0 ∷ 1 ∷ 0 ∷ 2 ∷ [];
+      counts = 10 ∷ 3 ∷ 3 ∷ 1 ∷ [];
+      table = [];
+    }
+    ∷ record {
+      limits = limitsOf 8 8 12;
+      calls = four;
+      numbers = 0 ∷ 0 ∷ 0 ∷ 0 ∷ 0 ∷ 0 ∷ 0 ∷ 0 ∷ 0 ∷ 0 ∷ 0 ∷ 0 ∷ 0 ∷ 0 ∷ 0 ∷ 0 ∷ 0 ∷ 0 ∷ [];
+      ids = 0 ∷ 1 ∷ 0 ∷ 2 ∷ [];
+      counts = 12 ∷ 4 ∷ 3 ∷ 1 ∷ [];
+      table = [];
+    }
+    ∷ record {
+      limits = limitsOf 8 8 64;
+      calls = leaf (0x78 ∷ []) ++ (opens ∷ links 2 0 ∷ links 2 0 ∷ closes ∷ packCall 1 64 0 ∷ []);
+      numbers = 0 ∷ 0 ∷ 0 ∷ 0 ∷ 0 ∷ 0 ∷ 0 ∷ 0 ∷ [];
+      ids = 0 ∷ 1 ∷ [];
+      counts = 5 ∷ 2 ∷ 2 ∷ 0 ∷ [];
+      table = 0x00 ∷ 0x04 ∷ 0x00 ∷ 0x04 ∷ 0x78 ∷ [];
+    }
+    ∷ record {
+      limits = limitsOf 8 8 64;
+      calls = leaf (0x78 ∷ []) ++ (opens ∷ links 4 0 ∷ closes ∷ packCall 1 64 0 ∷ []);
+      numbers = 0 ∷ 0 ∷ 0 ∷ 0 ∷ 0 ∷ 0 ∷ 0 ∷ [];
+      ids = 0 ∷ 1 ∷ [];
+      counts = 5 ∷ 1 ∷ 2 ∷ 0 ∷ [];
+      table = 0x00 ∷ 0x00 ∷ 0x00 ∷ 0x04 ∷ 0x78 ∷ [];
+    }
+    ∷ record {
+      limits = limitsOf 8 8 64;
+      calls = leaf (0x78 ∷ []) ++ (opens ∷ links 2 0 ∷ closes ∷ opens ∷ links 2 0 ∷ links 2 1 ∷ closes ∷ packCall 2 64 0 ∷ []);
+      numbers = 0 ∷ 0 ∷ 0 ∷ 0 ∷ 0 ∷ 0 ∷ 0 ∷ 0 ∷ 0 ∷ 0 ∷ 0 ∷ [];
+      ids = 0 ∷ 1 ∷ 2 ∷ [];
+      counts = 7 ∷ 3 ∷ 3 ∷ 0 ∷ [];
+      table = 0x00 ∷ 0x06 ∷ 0x00 ∷ 0x04 ∷ 0x00 ∷ 0x02 ∷ 0x78 ∷ [];
+    }
+    ∷ record {
+      limits = limitsOf 8 8 64;
+      calls = leaf (0x64 ∷ []) ++ leaf (0x65 ∷ []) ++ (packCall 1 64 0 ∷ []);
+      numbers = 0 ∷ 0 ∷ 0 ∷ 0 ∷ 0 ∷ 0 ∷ 0 ∷ [];
+      ids = 0 ∷ 1 ∷ [];
+      counts = 2 ∷ 0 ∷ 2 ∷ 0 ∷ [];
+      table = 0x65 ∷ [];
+    }
+    ∷ record {
+      limits = limitsOf 1 8 64;
+      calls = leaf (0x64 ∷ []) ++ leaf (0x64 ∷ []) ++ leaf (0x65 ∷ []);
+      numbers = 0 ∷ 0 ∷ 0 ∷ 0 ∷ 0 ∷ 0 ∷ 0 ∷ 0 ∷ 8 ∷ [];
+      ids = 0 ∷ 0 ∷ 0 ∷ [];
+      counts = 2 ∷ 0 ∷ 1 ∷ 1 ∷ [];
+      table = [];
+    }
+    ∷ record {
+      limits = limitsOf 8 8 64;
+      calls = puts (0x64 ∷ []) ∷ links 2 0 ∷ closes ∷ drops ∷ opens ∷ closes ∷ [];
+      numbers = 1 ∷ 1 ∷ 1 ∷ 1 ∷ 0 ∷ 5 ∷ [];
+      ids = 0 ∷ 0 ∷ [];
+      counts = 0 ∷ 0 ∷ 0 ∷ 1 ∷ [];
+      table = [];
+    }
+    ∷ record {
+      limits = limitsOf 8 8 64;
+      calls = opens ∷ puts (0x61 ∷ 0x62 ∷ 0x63 ∷ []) ∷ drops ∷ [];
+      numbers = 0 ∷ 0 ∷ 0 ∷ [];
+      ids = [];
+      counts = 0 ∷ 0 ∷ 0 ∷ 0 ∷ [];
+      table = [];
+    }
+    ∷ record {
+      limits = limitsOf 8 8 64;
+      calls = tallies ∷ packCall 0 64 0 ∷ [];
+      numbers = 0 ∷ 4 ∷ [];
+      ids = [];
+      counts = 0 ∷ 0 ∷ 0 ∷ 0 ∷ [];
+      table = [];
+    }
+    ∷ []
+
+pub cases-right : allRight cases ≡ true
+unfolding allRight right numbersOf idsOf countsOf tablesOf afterCall step pack verdict arranged firstFit tryOrder tryLast unfitFrom unfitLinks offset before tableLength tableOf tableFrom objectBytes filled kahnOrder distanceOrder distance distancesBy beyond relaxAll relax orderBy orderFrom reached reachDown waits kidsOf one count without zerosOf lastOnce least sameList total firstThat over holds bigEndian
+cases-right = refl

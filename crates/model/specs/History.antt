@@ -1,0 +1,147 @@
+-- Paper 01, "The history of demand 3": what the arguments of the calls alone say the session holds. It is told no memory and no answer.
+use Prim.Native.Nat.{ℕ, _+_}
+use mathlib.Core.Path.{_≡_}
+use mathlib.Core.List.{List, [], _∷_, _++_}
+use mathlib.Core.Bool.{true}
+use lib.ListN.{length, replicate}
+use lib.Dec.{leb, ltb}
+use Rattle.lists.specs.Lists.{pick, total, firstThat}
+use Rattle.answer.specs.Number.{noTally}
+use Rattle.answer.specs.declared.Tally.{Tally}
+use Rattle.model.specs.Reading.{Reading, bytes, field, bytesOf, readingSize, fieldCount, readingAt, sameReading, Shows, below, different}
+use Rattle.model.specs.Judge.{Limits, Needs, Verdict, accepted, refused, judgeStart, judgeOpen, judgePut, judgeLink, judgeClose, judgeDrop, judgeTally}
+use Rattle.model.specs.Told.{Told, doneClose, refusal}
+use Rattle.model.specs.Session.{Session, SessionCall, startCall, openCall, putCall, linkCall, closeCall, dropCall, tallyCall, Call, sessionCall, packCall, step, Packing, pack, afterCall}
+
+-- objects as their readings so far: the open ones, the innermost first, and the closed ones numbered from 0
+pub record History : Type 0 where
+  pub limits : Limits
+  pub opens : List Reading
+  pub closed : List Reading
+
+-- the sum, and the other counts
+abbrev pub counts : History → Tally
+counts h =
+    record {
+      bytes = total readingSize (h .opens) + total readingSize (h .closed);
+      links = total fieldCount (h .opens) + total fieldCount (h .closed);
+      objects = length (h .closed);
+      depth = length (h .opens);
+    }
+
+-- ---- readings that grow
+
+unfoldable pub putOn : List ℕ → Reading → Reading
+putOn vs (bytes b) = bytes (b ++ vs)
+putOn vs (field a w c r) = field a w c (putOn vs r)
+
+-- a last field at `at`, with its child's reading
+unfoldable pub fieldOn : ℕ → ℕ → Reading → Reading → Reading
+fieldOn at w child (bytes b) = field at w child (bytes b)
+fieldOn at w child (field a v c r) = field a v c (fieldOn at w child r)
+
+-- a field appended, zero bytes of its width
+abbrev pub linkOn : ℕ → Reading → Reading → Reading
+linkOn w child r = putOn (replicate w 0) (fieldOn (readingSize r) w child r)
+
+-- ---- what the accepted calls change
+
+abbrev pub begun : Limits → History
+begun m = record { limits = m; opens = []; closed = [] }
+
+abbrev pub keepOpens : List Reading → History → History
+keepOpens rs h = record { limits = h .limits; opens = rs; closed = h .closed }
+
+abbrev pub inner : List Reading → Reading
+inner [] = bytes []
+inner (r ∷ rs) = r
+
+abbrev pub others : List Reading → List Reading
+others [] = []
+others (r ∷ rs) = rs
+
+abbrev pub onInner : (Reading → Reading) → History → History
+onInner f h = keepOpens (f (inner (h .opens)) ∷ others (h .opens)) h
+
+-- the id of the closed reading equal to the innermost open one; the next id where none is
+abbrev pub idOf : History → ℕ
+idOf h = firstThat (sameReading (inner (h .opens))) (h .closed)
+
+abbrev pub closes : History → History
+closes h =
+    record {
+      limits = h .limits;
+      opens = others (h .opens);
+      closed = pick (ltb (idOf h) (length (h .closed))) (h .closed) (h .closed ++ (inner (h .opens) ∷ []));
+    }
+
+-- ---- each call but pack: judged by the table, with the history's own counts; 12 never applies
+
+unfoldable pub judged : Needs → SessionCall → History → Verdict
+judged n (startCall m records) h = judgeStart n m records
+judged n openCall h = judgeOpen true (counts h)
+judged n (putCall vs) h = judgePut true (h .limits) (counts h) (length vs)
+judged n (linkCall w id) h = judgeLink true (h .limits) (counts h) w id
+judged n closeCall h = judgeClose true (h .limits) (counts h) (readingSize (inner (h .opens))) (idOf h)
+judged n dropCall h = judgeDrop true (counts h)
+judged n tallyCall h = judgeTally true
+
+unfoldable pub accept : SessionCall → History → History
+accept (startCall m records) h = begun m
+accept openCall h = keepOpens (bytes [] ∷ h .opens) h
+accept (putCall vs) h = onInner (putOn vs) h
+accept (linkCall w id) h = onInner (linkOn w (readingAt (h .closed) id)) h
+accept closeCall h = closes h
+accept dropCall h = keepOpens (others (h .opens)) h
+accept tallyCall h = h
+
+-- a refused call changes nothing
+abbrev pub next : Verdict → History → History → History
+next accepted new old = new
+next (refused why) new old = old
+
+-- nor does a pack
+unfoldable pub after : Needs → Call → History → History
+after n (sessionCall c) h = next (judged n c h) (accept c h) h
+after n (packCall id out work) h = h
+
+-- ---- what the calls must tell
+
+-- only a close tells an id
+unfoldable pub idTold : SessionCall → History → ℕ
+idTold (startCall m records) h = 0
+idTold openCall h = 0
+idTold (putCall vs) h = 0
+idTold (linkCall w id) h = 0
+idTold closeCall h = idOf h
+idTold dropCall h = 0
+idTold tallyCall h = 0
+
+abbrev pub tell : Verdict → Tally → Told → Told
+tell accepted t whenDone = whenDone
+tell (refused why) t whenDone = refusal why t
+
+unfoldable pub expected : Needs → SessionCall → History → Told
+expected n c h = tell (judged n c h) (counts h) (doneClose (idTold c h) (counts (accept c h)))
+
+-- an accepted pack leaves a table that shows the root's reading from its first byte, as long as the different readings in it
+pub record Packed (h : History) (root : ℕ) (p : Packing) : Type 0 where
+  pub shown : Shows (p .table) 0 (readingAt (h .closed) root)
+  pub long : length (p .table) ≡ p .told .length
+  pub sum : p .told .length ≡ total readingSize (different (readingAt (h .closed) root ∷ below (readingAt (h .closed) root)))
+
+-- the tally beside a pack's number is the history's, but zero beside 12 and 13
+pub record PackAgrees (h : History) (root : ℕ) (p : Packing) : Type 0 where
+  pub counted : p .told .tally ≡ pick (leb 12 (p .told .number)) noTally (counts h)
+  pub packed : p .told .number ≡ 0 → Packed h root p
+
+-- ---- one claim about a whole list of calls
+
+unfoldable pub Agrees : Needs → Call → Session → History → Type 0
+Agrees n (sessionCall c) s h = step n c s .told ≡ expected n c h
+Agrees n (packCall id out work) s h = PackAgrees h id (pack n id out work s)
+
+-- each call gets the session and the history as the one before left them
+unfoldable pub AllAgree : Needs → List Call → Session → History → Type 0
+AllAgree n [] s h = Unit {0}
+AllAgree n (c ∷ cs) s h = Agrees n c s h × AllAgree n cs (afterCall n c s) (after n c h)

@@ -1,0 +1,127 @@
+-- Paper 01, "What each number means": for each call the refusals in the paper's order, of which the first that applies is told.
+use Prim.Native.Nat.{ℕ, _+_}
+use mathlib.Core.List.{List, [], _∷_}
+use mathlib.Core.Bool.{Bool, true, false, not, _&&_}
+use lib.Dec.{eqb, leb, ltb}
+use Rattle.lists.specs.Lists.{pick, holds}
+use Rattle.answer.specs.declared.Tally.{Tally}
+use Rattle.answer.specs.declared.Overflow.{Overflow}
+use Rattle.answer.specs.declared.Refusal.{Refusal}
+use Rattle.answer.specs.declared.Refusal.the-variants as Refusal
+use Rattle.model.specs.Object.{widthOk}
+use Rattle.model.specs.Table.{Outcome, placed, overflow}
+
+-- ---- ranges
+
+abbrev pub mostObjects : ℕ
+mostObjects = 4096
+
+abbrev pub mostLinks : ℕ
+mostLinks = 16384
+
+abbrev pub mostBytes : ℕ
+mostBytes = 1048576
+
+abbrev pub mostOpen : ℕ
+mostOpen = 64
+
+-- what a start chooses: the object limit (the piece limit), the link limit, and the byte store by its length
+pub record Limits : Type 0 where
+  pub objects : ℕ
+  pub links : ℕ
+  pub bytes : ℕ
+
+-- how many words the record store and the work memory need, by object limit and link limit
+pub record Needs : Type 0 where
+  pub records : ℕ → ℕ → ℕ
+  pub work : ℕ → ℕ → ℕ
+
+-- ---- verdicts
+
+pub data Verdict : Type 0 where
+  accepted : Verdict
+  refused : Refusal → Verdict
+
+pub record Test : Type 0 where
+  pub applies : Bool
+  pub tells : Refusal
+
+abbrev pub when : Bool → Refusal → Test
+when b r = record { applies = b; tells = r }
+
+unfoldable pub verdict : List Test → Verdict
+verdict [] = accepted
+verdict (t ∷ ts) = pick (t .applies) (refused (t .tells)) (verdict ts)
+
+-- ---- tests that several calls share: whether the session is sound, what it holds
+
+abbrev pub unsound : Bool → Test
+unsound sound = when (not sound) Refusal.Unsound
+
+abbrev pub nothingOpen : Tally → Test
+nothingOpen t = when (eqb (t .depth) 0) Refusal.NothingOpen
+
+abbrev pub notClosed : Tally → ℕ → Test
+notClosed t id = when (leb (t .objects) id) Refusal.NotClosed
+
+-- n bytes more
+abbrev pub storeFull : Limits → Tally → ℕ → Test
+storeFull m t n = when (ltb (m .bytes) (t .bytes + n)) Refusal.StoreFull
+
+-- ---- the eight calls
+
+abbrev pub inRange : Limits → List Bool
+inRange m = leb 1 (m .objects) ∷ leb (m .objects) mostObjects ∷ leb (m .links) mostLinks ∷ leb 1 (m .bytes) ∷ leb (m .bytes) mostBytes ∷ []
+
+-- `records` words are lent
+abbrev pub judgeStart : Needs → Limits → ℕ → Verdict
+judgeStart n m records =
+    verdict (when (not (holds (inRange m) && leb (n .records (m .objects) (m .links)) records)) Refusal.OutOfRange ∷ [])
+
+abbrev pub judgeOpen : Bool → Tally → Verdict
+judgeOpen sound t = verdict (unsound sound ∷ when (leb mostOpen (t .depth)) Refusal.DepthFull ∷ [])
+
+abbrev pub judgePut : Bool → Limits → Tally → ℕ → Verdict
+judgePut sound m t n = verdict (unsound sound ∷ nothingOpen t ∷ storeFull m t n ∷ [])
+
+abbrev pub judgeLink : Bool → Limits → Tally → ℕ → ℕ → Verdict
+judgeLink sound m t width id =
+    verdict
+    (unsound sound
+    ∷ nothingOpen t
+    ∷ when (not (widthOk width)) Refusal.BadWidth
+    ∷ notClosed t id
+    ∷ when (leb (m .links) (t .links)) Refusal.LinksFull
+    ∷ storeFull m t width
+    ∷ [])
+
+-- `size` is the innermost open object's; `twin` the lowest id of an equal closed one, or the count of closed ones
+abbrev pub judgeClose : Bool → Limits → Tally → ℕ → ℕ → Verdict
+judgeClose sound m t size twin =
+    verdict
+    (unsound sound
+    ∷ nothingOpen t
+    ∷ when (eqb size 0) Refusal.EmptyObject
+    ∷ when (leb (t .objects) twin && leb (m .objects) (t .objects)) Refusal.ObjectsFull
+    ∷ [])
+
+abbrev pub judgeDrop : Bool → Tally → Verdict
+judgeDrop sound t = verdict (unsound sound ∷ nothingOpen t ∷ [])
+
+abbrev pub judgeTally : Bool → Verdict
+judgeTally sound = verdict (unsound sound ∷ [])
+
+abbrev pub overflows : Outcome → List Test
+overflows (placed o) = []
+overflows (overflow u) = when true (Refusal.Overflow u) ∷ []
+
+-- `out` bytes and `work` words are lent; the table has `length` bytes
+abbrev pub judgePack : Bool → Needs → Limits → Tally → ℕ → ℕ → ℕ → ℕ → Outcome → Verdict
+judgePack sound n m t id out work length outcome =
+    verdict
+    (unsound sound
+    ∷ when (ltb work (n .work (m .objects) (m .links))) Refusal.OutOfRange
+    ∷ when (not (eqb (t .depth) 0)) Refusal.ObjectOpen
+    ∷ notClosed t id
+    ∷ when (ltb out length) Refusal.OutputShort
+    ∷ overflows outcome)

@@ -1,0 +1,13 @@
+pub mod Bag
+pub mod Object
+pub mod Graph
+pub mod Order
+pub mod Distance
+pub mod Table
+pub mod Reading
+pub mod Judge
+pub mod Told
+pub mod Session
+pub mod History
+pub mod Cases
+pub mod OrderCases

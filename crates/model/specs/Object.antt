@@ -1,0 +1,51 @@
+-- Paper 01, "Pieces, fields and readings": an object (its piece) is a run of bytes with links; each link has an offset field
+-- (its link field) among the bytes.
+use Prim.Native.Nat.{ℕ}
+use mathlib.Core.List.{List, [], _∷_, _++_}
+use mathlib.Core.Bool.{Bool, _&&_, _||_}
+use lib.ListN.{length, getD, replicate}
+use lib.Dec.{eqb}
+use Rattle.lists.specs.Lists.{sameList}
+
+-- the field's place in its object, its width in bytes, and the child's id
+pub record Link : Type 0 where
+  pub at : ℕ
+  pub width : ℕ
+  pub child : ℕ
+
+pub record Object : Type 0 where
+  pub bytes : List ℕ
+  pub links : List Link
+
+abbrev pub noObject : Object
+noObject = record { bytes = []; links = [] }
+
+-- ids are the indexes of a list of objects
+abbrev pub objectAt : List Object → ℕ → Object
+objectAt os i = getD os i noObject
+
+abbrev pub sizeOf : Object → ℕ
+sizeOf o = length (o .bytes)
+
+abbrev pub linkCount : Object → ℕ
+linkCount o = length (o .links)
+
+-- the widths that a field may have
+abbrev pub widthOk : ℕ → Bool
+widthOk w = eqb w 2 || eqb w 4
+
+-- bytes appended
+abbrev pub withBytes : List ℕ → Object → Object
+withBytes vs o = record { bytes = o .bytes ++ vs; links = o .links }
+
+-- a link appended, and with it its own field of zero bytes
+abbrev pub withLink : ℕ → ℕ → Object → Object
+withLink w c o =
+    record { bytes = o .bytes ++ replicate w 0; links = o .links ++ (record { at = length (o .bytes); width = w; child = c } ∷ []) }
+
+-- the comparison at closing: the same bytes and the same links, children by id
+abbrev pub sameLink : Link → Link → Bool
+sameLink l m = eqb (l .at) (m .at) && (eqb (l .width) (m .width) && eqb (l .child) (m .child))
+
+abbrev pub sameObject : Object → Object → Bool
+sameObject o p = sameList eqb (o .bytes) (p .bytes) && sameList sameLink (o .links) (p .links)

@@ -1,0 +1,130 @@
+-- Graphs that tell the orders from ones that come near them, by one claim over a list of them.
+use Prim.Native.Nat.{ℕ}
+use mathlib.Core.Path.{_≡_, refl}
+use mathlib.Core.List.{List, [], _∷_, _++_}
+use mathlib.Core.Bool.{Bool, true, _&&_}
+use lib.ListN.{getD}
+use lib.Dec.{eqb}
+use Rattle.lists.specs.Lists.{sameList, total}
+use Rattle.model.specs.Bag.{one, count, without, zerosOf, lastOnce, least}
+use Rattle.model.specs.Object.{Link}
+use Rattle.model.specs.Graph.{Graph, kidsOf, waits, reachDown, reached}
+use Rattle.model.specs.Order.{orderFrom, orderBy}
+use Rattle.model.specs.Distance.{relax, relaxAll, distancesBy, beyond, distance, kahnOrder, distanceOrder}
+use Rattle.model.specs.Table.{Outcome, placed, overflow, before, offset, unfitLinks, unfitFrom, tryOrder, tryLast, firstFit, arranged}
+
+-- sizes and links by id; both orders from the root; what does not fit in the distance order, where neither fits
+pub record Case : Type 0 where
+  pub sizes : List ℕ
+  pub links : List (List Link)
+  pub root : ℕ
+  pub kahn : List ℕ
+  pub distance : List ℕ
+  pub unfit : List ℕ
+
+-- the parent, the field's place and the offset needed
+abbrev unfitIn : Outcome → List ℕ
+unfitIn (placed o) = []
+unfitIn (overflow u) = u .parent .0 ∷ u .field ∷ u .needed ∷ []
+
+unfoldable pub right : Case → Bool
+right c =
+    let g : Graph = record { size = λ i. getD (c .sizes) i 0; links = λ i. getD (c .links) i [] } in
+    sameList eqb (kahnOrder g (c .root)) (c .kahn)
+    && (sameList eqb (distanceOrder g (c .root)) (c .distance) && sameList eqb (unfitIn (arranged g (c .root))) (c .unfit))
+
+unfoldable pub allRight : List Case → Bool
+allRight [] = true
+allRight (c ∷ cs) = right c && allRight cs
+
+abbrev to : ℕ → ℕ → ℕ → Link
+to at width child = record { at = at; width = width; child = child }
+
+abbrev pub cases : List Case
+cases =
+    -- a child of two parents waits for both
+    record {
+      sizes = 1 ∷ 2 ∷ 4 ∷ [];
+      links = [] ∷ (to 0 2 0 ∷ []) ∷ (to 0 2 0 ∷ to 2 2 1 ∷ []) ∷ [];
+      root = 2;
+      kahn = 2 ∷ 1 ∷ 0 ∷ [];
+      distance = 2 ∷ 1 ∷ 0 ∷ [];
+      unfit = [];
+    }
+    -- fields to x, y, x: x becomes ready by its last field, so after y
+    ∷ record {
+      sizes = 1 ∷ 1 ∷ 6 ∷ [];
+      links = [] ∷ [] ∷ (to 0 2 0 ∷ to 2 2 1 ∷ to 4 2 0 ∷ []) ∷ [];
+      root = 2;
+      kahn = 2 ∷ 1 ∷ 0 ∷ [];
+      distance = 2 ∷ 1 ∷ 0 ∷ [];
+      unfit = [];
+    }
+    -- a parent that is not reached counts for nothing
+    ∷ record {
+      sizes = 1 ∷ 2 ∷ 2 ∷ [];
+      links = [] ∷ (to 0 2 0 ∷ []) ∷ (to 0 2 0 ∷ []) ∷ [];
+      root = 2;
+      kahn = 2 ∷ 0 ∷ [];
+      distance = 2 ∷ 0 ∷ [];
+      unfit = [];
+    }
+    -- equal distances through different parents: the longest ready first, whatever the ids
+    ∷ record {
+      sizes = 1 ∷ 1 ∷ 2 ∷ 2 ∷ 4 ∷ [];
+      links = [] ∷ [] ∷ (to 0 2 1 ∷ []) ∷ (to 0 2 0 ∷ []) ∷ (to 0 2 2 ∷ to 2 2 3 ∷ []) ∷ [];
+      root = 4;
+      kahn = 4 ∷ 2 ∷ 3 ∷ 1 ∷ 0 ∷ [];
+      distance = 4 ∷ 2 ∷ 3 ∷ 1 ∷ 0 ∷ [];
+      unfit = [];
+    }
+    -- of two links to one child the lighter one counts
+    ∷ record {
+      sizes = 5 ∷ 10 ∷ 8 ∷ [];
+      links = [] ∷ [] ∷ (to 0 4 0 ∷ to 4 2 1 ∷ to 6 2 0 ∷ []) ∷ [];
+      root = 2;
+      kahn = 2 ∷ 1 ∷ 0 ∷ [];
+      distance = 2 ∷ 0 ∷ 1 ∷ [];
+      unfit = [];
+    }
+    -- width 4 weighs the child's size too
+    ∷ record {
+      sizes = 9 ∷ 3 ∷ 8 ∷ [];
+      links = [] ∷ [] ∷ (to 0 4 0 ∷ to 4 4 1 ∷ []) ∷ [];
+      root = 2;
+      kahn = 2 ∷ 0 ∷ 1 ∷ [];
+      distance = 2 ∷ 1 ∷ 0 ∷ [];
+      unfit = [];
+    }
+    -- 65,535 fits width 2, so that the plain order stands
+    ∷ record {
+      sizes = 65531 ∷ 10 ∷ 4 ∷ [];
+      links = [] ∷ [] ∷ (to 0 2 0 ∷ to 2 2 1 ∷ []) ∷ [];
+      root = 2;
+      kahn = 2 ∷ 0 ∷ 1 ∷ [];
+      distance = 2 ∷ 1 ∷ 0 ∷ [];
+      unfit = [];
+    }
+    -- two that are each too long to have the other behind them
+    ∷ record {
+      sizes = 65532 ∷ 65532 ∷ 4 ∷ [];
+      links = [] ∷ [] ∷ (to 0 2 0 ∷ to 2 2 1 ∷ []) ∷ [];
+      root = 2;
+      kahn = 2 ∷ 0 ∷ 1 ∷ [];
+      distance = 2 ∷ 0 ∷ 1 ∷ [];
+      unfit = 2 ∷ 2 ∷ 65536 ∷ [];
+    }
+    -- HarfBuzz's graph: f d b g e c a are 0 to 6
+    ∷ record {
+      sizes = 1 ∷ 40000 ∷ 2 ∷ 1 ∷ 40000 ∷ 2 ∷ 8 ∷ [];
+      links = [] ∷ (to 0 2 0 ∷ []) ∷ (to 0 2 1 ∷ []) ∷ [] ∷ (to 0 2 3 ∷ []) ∷ (to 0 2 4 ∷ []) ∷ (to 0 4 2 ∷ to 4 4 5 ∷ []) ∷ [];
+      root = 6;
+      kahn = 6 ∷ 2 ∷ 5 ∷ 1 ∷ 4 ∷ 0 ∷ 3 ∷ [];
+      distance = 6 ∷ 2 ∷ 5 ∷ 1 ∷ 4 ∷ 0 ∷ 3 ∷ [];
+      unfit = 1 ∷ 0 ∷ 80000 ∷ [];
+    }
+    ∷ []
+
+pub cases-right : allRight cases ≡ true
+unfolding allRight right arranged firstFit tryOrder tryLast unfitFrom unfitLinks offset before kahnOrder distanceOrder distance distancesBy beyond relaxAll relax orderBy orderFrom reached reachDown waits kidsOf one count without zerosOf lastOnce least sameList total
+cases-right = refl

@@ -1,0 +1,133 @@
+-- Paper 01, "What the session holds" and "Steps", on lists: the abstract session and each call on it.
+use Prim.Native.Nat.{ℕ, _+_}
+use mathlib.Core.List.{List, [], _∷_, _++_}
+use mathlib.Core.Bool.{true}
+use lib.ListN.{length}
+use lib.Dec.{ltb}
+use Rattle.lists.specs.Lists.{pick, total, firstThat}
+use Rattle.answer.specs.declared.Tally.{Tally}
+use Rattle.model.specs.Object.{Object, noObject, objectAt, sizeOf, linkCount, withBytes, withLink, sameObject}
+use Rattle.model.specs.Graph.{graphOf}
+use Rattle.model.specs.Table.{Outcome, placed, overflow, arranged, tableLength, tableOf}
+use Rattle.model.specs.Judge.{Limits, Needs, Verdict, accepted, refused, judgeStart, judgeOpen, judgePut, judgeLink, judgeClose, judgeDrop, judgeTally, judgePack}
+use Rattle.model.specs.Told.{Told, done, doneClose, donePack, refusal}
+
+-- the open objects, the innermost first; the closed ones by id
+pub record Session : Type 0 where
+  pub limits : Limits
+  pub opens : List Object
+  pub closed : List Object
+
+abbrev pub tallyOf : Session → Tally
+tallyOf s =
+    record {
+      bytes = total sizeOf (s .opens) + total sizeOf (s .closed);
+      links = total linkCount (s .opens) + total linkCount (s .closed);
+      objects = length (s .closed);
+      depth = length (s .opens);
+    }
+
+-- ---- what the accepted calls change
+
+abbrev pub started : Limits → Session
+started m = record { limits = m; opens = []; closed = [] }
+
+abbrev pub withOpens : List Object → Session → Session
+withOpens os s = record { limits = s .limits; opens = os; closed = s .closed }
+
+abbrev pub innermost : List Object → Object
+innermost [] = noObject
+innermost (o ∷ os) = o
+
+abbrev pub outer : List Object → List Object
+outer [] = []
+outer (o ∷ os) = os
+
+-- the innermost open object changed
+abbrev pub onInnermost : (Object → Object) → Session → Session
+onInnermost f s = withOpens (f (innermost (s .opens)) ∷ outer (s .opens)) s
+
+-- the lowest id of a closed object equal to the innermost open one; the count of closed ones, which is the next id, where none is
+abbrev pub twin : Session → ℕ
+twin s = firstThat (sameObject (innermost (s .opens))) (s .closed)
+
+-- a duplicate is discarded
+abbrev pub sealed : Session → Session
+sealed s =
+    record {
+      limits = s .limits;
+      opens = outer (s .opens);
+      closed = pick (ltb (twin s) (length (s .closed))) (s .closed) (s .closed ++ (innermost (s .opens) ∷ []));
+    }
+
+-- ---- the seven calls on a session, with their arguments: of lent memory its length, of what a put lends its bytes
+
+pub data SessionCall : Type 0 where
+  startCall : Limits → ℕ → SessionCall
+  openCall : SessionCall
+  putCall : List ℕ → SessionCall
+  linkCall : ℕ → ℕ → SessionCall
+  closeCall : SessionCall
+  dropCall : SessionCall
+  tallyCall : SessionCall
+
+-- what a call tells, and the session after it
+pub record Left : Type 0 where
+  pub told : Told
+  pub after : Session
+
+-- by a verdict: a refused call changes nothing
+abbrev pub settle : Verdict → Session → Left → Left
+settle accepted s l = l
+settle (refused why) s l = record { told = refusal why (tallyOf s); after = s }
+
+-- an accepted call that leaves s
+abbrev pub leaves : Session → Left
+leaves s = record { told = done (tallyOf s); after = s }
+
+unfoldable pub step : Needs → SessionCall → Session → Left
+step n (startCall m records) s = settle (judgeStart n m records) s (leaves (started m))
+step n openCall s = settle (judgeOpen true (tallyOf s)) s (leaves (withOpens (noObject ∷ s .opens) s))
+step n (putCall vs) s = settle (judgePut true (s .limits) (tallyOf s) (length vs)) s (leaves (onInnermost (withBytes vs) s))
+step n (linkCall w id) s = settle (judgeLink true (s .limits) (tallyOf s) w id) s (leaves (onInnermost (withLink w id) s))
+step n closeCall s =
+    settle (judgeClose true (s .limits) (tallyOf s) (sizeOf (innermost (s .opens))) (twin s)) s
+    (record { told = doneClose (twin s) (tallyOf (sealed s)); after = sealed s })
+step n dropCall s = settle (judgeDrop true (tallyOf s)) s (leaves (withOpens (outer (s .opens)) s))
+step n tallyCall s = settle (judgeTally true) s (leaves s)
+
+-- ---- pack changes no session: what it tells, and the table that it writes
+
+pub record Packing : Type 0 where
+  pub told : Told
+  pub table : List ℕ
+
+abbrev pub content : Session → ℕ → List ℕ
+content s i = objectAt (s .closed) i .bytes
+
+abbrev pub tableIn : Session → Outcome → List ℕ
+tableIn s (placed o) = tableOf (graphOf (s .closed)) (content s) o
+tableIn s (overflow u) = []
+
+abbrev pub settlePack : Verdict → Session → Packing → Packing
+settlePack accepted s p = p
+settlePack (refused why) s p = record { told = refusal why (tallyOf s); table = [] }
+
+-- the root's id, and how much output and work memory is lent
+unfoldable pub pack : Needs → ℕ → ℕ → ℕ → Session → Packing
+pack n id out work s =
+    let g = graphOf (s .closed) in
+    let outcome = arranged g id in
+    let size = tableLength g id in
+    settlePack (judgePack true n (s .limits) (tallyOf s) id out work size outcome) s
+    (record { told = donePack size (tallyOf s); table = tableIn s outcome })
+
+-- ---- the eight calls
+
+pub data Call : Type 0 where
+  sessionCall : SessionCall → Call
+  packCall : ℕ → ℕ → ℕ → Call
+
+unfoldable pub afterCall : Needs → Call → Session → Session
+afterCall n (sessionCall c) s = step n c s .after
+afterCall n (packCall id out work) s = s

@@ -1,0 +1,97 @@
+-- Paper 01, "The two orders" from "Places" on: places, offsets, what does not fit, the first order that fits, and the table's bytes.
+use Prim.Native.Nat.{ℕ, _+_, _-_, _≤_}
+use mathlib.Core.Path.{_≡_}
+use mathlib.Core.List.{List, [], _∷_, _++_}
+use lib.ListN.{length}
+use lib.Dec.{eqb}
+use Rattle.lists.specs.Lists.{pick, total, over}
+use Rattle.answer.specs.declared.Overflow.{Overflow}
+use Rattle.field.specs.BigEndian.{fits, bigEndian}
+use Rattle.model.specs.Object.{Link}
+use Rattle.model.specs.Graph.{Graph, reached}
+use Rattle.model.specs.Distance.{kahnOrder, distanceOrder}
+
+-- the sum of f over those before x in an order
+unfoldable pub before : (ℕ → ℕ) → List ℕ → ℕ → ℕ
+before f [] x = 0
+before f (y ∷ o) x = pick (eqb x y) 0 (f y + before f o x)
+
+-- where an object begins
+abbrev pub placeOf : Graph → List ℕ → ℕ → ℕ
+placeOf g o x = before (g .size) o x
+
+-- from the first byte of the object that has the field; `place` gives each object's
+unfoldable pub offset : (ℕ → ℕ) → ℕ → Link → ℕ
+offset place p l = place (l .child) - place p
+
+-- ---- the links that do not fit, in placing order and then by rising field
+
+unfoldable pub unfitLinks : (ℕ → ℕ) → ℕ → List Link → List Overflow
+unfitLinks place p [] = []
+unfitLinks place p (l ∷ ls) =
+    pick (fits (l .width) (offset place p l)) (unfitLinks place p ls)
+    (record { parent = record { 0 = p }; field = l .at; needed = offset place p l } ∷ unfitLinks place p ls)
+
+unfoldable pub unfitFrom : Graph → (ℕ → ℕ) → List ℕ → List Overflow
+unfitFrom g place [] = []
+unfitFrom g place (x ∷ o) = unfitLinks place x (g .links x) ++ unfitFrom g place o
+
+abbrev pub unfit : Graph → List ℕ → List Overflow
+unfit g o = unfitFrom g (placeOf g o) o
+
+-- ---- the first order in which every link fits; else the last one's first overflow
+
+pub data Outcome : Type 0 where
+  placed : List ℕ → Outcome
+  overflow : Overflow → Outcome
+
+unfoldable pub tryOrder : List Overflow → List ℕ → Outcome → Outcome
+tryOrder [] o next = placed o
+tryOrder (u ∷ us) o next = next
+
+unfoldable pub tryLast : List Overflow → List ℕ → Outcome
+tryLast [] o = placed o
+tryLast (u ∷ us) o = overflow u
+
+-- an order, and those to try after it
+unfoldable pub firstFit : Graph → List ℕ → List (List ℕ) → Outcome
+firstFit g o [] = tryLast (unfit g o) o
+firstFit g o (p ∷ ps) = tryOrder (unfit g o) o (firstFit g p ps)
+
+unfoldable pub arranged : Graph → ℕ → Outcome
+arranged g root = firstFit g (kahnOrder g root) (distanceOrder g root ∷ [])
+
+-- ---- the table
+
+-- known before any order
+unfoldable pub tableLength : Graph → ℕ → ℕ
+tableLength g root = total (g .size) (reached g root)
+
+-- bytes with the fields filled
+unfoldable pub filled : (Link → ℕ) → List Link → List ℕ → List ℕ
+filled off [] bs = bs
+filled off (l ∷ ls) bs = filled off ls (over (l .at) (bigEndian (l .width) (off l)) bs)
+
+-- `content` gives each object's bytes
+unfoldable pub objectBytes : Graph → (ℕ → List ℕ) → (ℕ → ℕ) → ℕ → List ℕ
+objectBytes g content place i = filled (offset place i) (g .links i) (content i)
+
+unfoldable pub tableFrom : Graph → (ℕ → List ℕ) → (ℕ → ℕ) → List ℕ → List ℕ
+tableFrom g content place [] = []
+tableFrom g content place (x ∷ o) = objectBytes g content place x ++ tableFrom g content place o
+
+unfoldable pub tableOf : Graph → (ℕ → List ℕ) → List ℕ → List ℕ
+tableOf g content o = tableFrom g content (placeOf g o) o
+
+-- ---- what the laws of tables ask
+
+-- fields in rising order, apart, from `from` on, inside n bytes
+unfoldable pub FieldsIn : ℕ → ℕ → List Link → Type 0
+FieldsIn from n [] = Unit {0}
+FieldsIn from n (l ∷ ls) = (from ≤ l .at) × (l .at + l .width ≤ n) × FieldsIn (l .at + l .width) n ls
+
+unfoldable pub Fields : Graph → Type 0
+Fields g = (i : ℕ) → FieldsIn 0 (g .size i) (g .links i)
+
+unfoldable pub Sized : Graph → (ℕ → List ℕ) → Type 0
+Sized g content = (i : ℕ) → length (content i) ≡ g .size i
