@@ -1,7 +1,5 @@
 -- Paper 01, "What each number means": the number of each refusal, and the values that it comes with.
 use Prim.Native.Nat.{ℕ}
-use lib.Dec.{leb}
-use Rattle.answer.specs.declared.ObjectId.{ObjectId}
 use Rattle.answer.specs.declared.Overflow.{Overflow}
 use Rattle.answer.specs.declared.Tally.{Tally}
 use Rattle.answer.specs.declared.Refusal.{Refusal}

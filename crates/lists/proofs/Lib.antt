@@ -1,3 +1,4 @@
+pub mod Elements
 pub mod Over
 pub mod Runs
 pub mod Same

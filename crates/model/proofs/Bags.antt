@@ -3,12 +3,11 @@ use mathlib.Core.Path.{_≡_, refl, sym, ap, _∙_}
 use Prim.Native.Nat.{ℕ, zero, suc, _+_, _-_, _≤_, _<_}
 use mathlib.Core.List.{List, [], _∷_, _++_}
 use mathlib.Core.Bool.{Bool, true, false}
-use mathlib.Core.Logic.{_⊎_, inl, inr}
 use native.Mathlib.Omega.{arith}
 use native.Mathlib.Decide.{ℕ-discrete, decLe}
 use lib.ListN.{length}
-use lib.Dec.{eqb, ltb}
-use borrow.Author.Tests.{eq-eqb, ne-eqb, eqb-true, eqb-false}
+use lib.Dec.{eqb}
+use borrow.Author.Tests.{eq-eqb, ne-eqb}
 use Rattle.lists.specs.Lists.{pick, total}
 use Rattle.model.specs.Bag.{one, count, without, zerosOf, lastOnce, leads, least}
 
@@ -83,11 +82,6 @@ total-without f y (z ∷ l) h = go (total-without f y l) (sameOr y z)
 -- a summand is no more than the sum
 pub total-part : (f : ℕ → ℕ) (y : ℕ) (l : List ℕ) → 0 < count y l → f y ≤ total f l
 total-part f y l h = omega (arith, total-without f y l h)
-
-pub total-append : (f : ℕ → ℕ) (a b : List ℕ) → total f (a ++ b) ≡ total f a + total f b
-unfolding total
-total-append f [] b = omega arith
-total-append f (x ∷ a) b = omega (arith, total-append f a b)
 
 pub count-zerosOf : (f : ℕ → ℕ) (x : ℕ) (l : List ℕ) → count x (zerosOf f l) ≡ pick (eqb (f x) 0) (count x l) 0
 unfolding count zerosOf

@@ -1,5 +1,5 @@
 -- A distance is the least sum of weights over all paths from the root.
-use mathlib.Core.Path.{_≡_, refl, sym, ap, _∙_}
+use mathlib.Core.Path.{_≡_, refl, ap, _∙_}
 use Prim.Native.Nat.{ℕ, zero, suc, _+_, min, _≤_, _<_}
 use mathlib.Core.List.{List, [], _∷_}
 use native.Mathlib.Omega.{arith}
@@ -12,7 +12,7 @@ use Rattle.model.specs.Object.{Link}
 use Rattle.model.specs.Graph.{Graph, kids, kidsOf, waits, reached, Ranked, Acyclic, Closed, ParentsFirst, Rooted}
 use Rattle.model.specs.Distance.{In, here, there, Path, start, along, Least, weight, relax, relaxAll, distancesBy, beyond, distance}
 use Rattle.model.specs.Table.{before}
-use Rattle.model.proofs.Bags.{Same, same, other, sameOr, one-same, one-eq, total-from, total-part, Top, top-of}
+use Rattle.model.proofs.Bags.{Same, same, other, sameOr, one-same, one-eq, total-from, top-of}
 use Rattle.model.proofs.Before.{before-behind, before-most}
 use Rattle.model.proofs.Reach.{reached-rooted, reached-first, reached-low}
 

@@ -1,6 +1,6 @@
 -- The sum of the sizes of the objects below a root is that of the different readings among the root's and those below it.
 use mathlib.Core.Path.{_≡_, refl, sym, ap, subst, _∙_}
-use Prim.Native.Nat.{ℕ, _+_, _≤_, _<_}
+use Prim.Native.Nat.{ℕ, _+_, _<_}
 use mathlib.Core.List.{List, [], _∷_, _++_, List·Memᴰ, List·Memᴰ·head, List·Memᴰ·tail, List·Memᴰ·not-nil, List·Memᴰ·cases-cons, List·Memᴰ·append-cases, Memᴰ·append-left, Memᴰ·append-right, Memᴰ·cast}
 use mathlib.Core.Bool.{Bool, true, false, _||_}
 use mathlib.Core.Logic.{_⊎_, inl, inr}
@@ -11,7 +11,7 @@ use Rattle.model.specs.Bag.{count, without}
 use Rattle.model.specs.Object.{Link}
 use Rattle.model.specs.Graph.{Graph, kidsOf, Ranked, Closed, Once, Rooted}
 use Rattle.model.specs.Distance.{In, here, there, Path, start, along}
-use Rattle.model.specs.Reading.{Reading, bytes, field, bytesOf, readingSize, readLinks, Reads, sameReading, below, among, different}
+use Rattle.model.specs.Reading.{Reading, bytes, field, readingSize, readLinks, Reads, sameReading, below, among, different}
 use Rattle.model.specs.Table.{Sized}
 use Rattle.model.proofs.Bags.{Same, same, other, sameOr, one-same, count-without, total-without}
 use Rattle.model.proofs.Distances.{in-path}

@@ -9,3 +9,9 @@ pub mod Tables
 pub mod Readings
 pub mod SameReading
 pub mod Lengths
+pub mod Outcomes
+pub mod Verdicts
+pub mod Twins
+pub mod Growth
+pub mod Mirrors
+pub mod Agreement

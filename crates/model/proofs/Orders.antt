@@ -1,18 +1,17 @@
 -- Every placing order has each object once, parents before children.
-use mathlib.Core.Path.{_≡_, refl, sym, ap, _∙_}
+use mathlib.Core.Path.{_≡_, refl, _∙_}
 use Prim.Native.Nat.{ℕ, zero, suc, _+_, _-_, _≤_, _<_}
 use mathlib.Core.List.{List, [], _∷_, _++_}
 use mathlib.Core.Bool.{Bool, true, false}
 use native.Mathlib.Omega.{arith}
-use native.Mathlib.Decide.{decLe}
 use lib.ListN.{length}
 use lib.Dec.{eqb}
 use borrow.Author.Tests.{eq-eqb, ne-eqb}
-use Rattle.lists.specs.Lists.{pick, total}
+use Rattle.lists.specs.Lists.{pick}
 use Rattle.model.specs.Bag.{one, count, without, zerosOf, lastOnce, least}
-use Rattle.model.specs.Graph.{Graph, kids, waits, reached, reachDown, Ranked, Acyclic, Closed, Once, ParentsFirst, Rooted}
+use Rattle.model.specs.Graph.{Graph, kids, waits, reached, Ranked, Acyclic, Closed, Once, ParentsFirst, Rooted}
 use Rattle.model.specs.Order.{orderFrom, orderOf, orderBy}
-use Rattle.model.proofs.Bags.{Same, same, other, sameOr, Zero, none, some, zeroOr, one-same, one-eq, one-other, count-here, count-append, count-without, length-without, total-without, total-part, total-bag, total-from, one-part, count-zerosOf, count-lastOnce, least-in, Top, top-of}
+use Rattle.model.proofs.Bags.{Same, same, other, sameOr, Zero, none, some, zeroOr, one-same, one-other, count-here, count-append, count-without, length-without, total-bag, total-from, one-part, count-zerosOf, count-lastOnce, least-in, Top, top-of}
 use Rattle.model.proofs.Waits.{waits-without, waits-part}
 use Rattle.model.proofs.Reach.{reached-rooted}
 

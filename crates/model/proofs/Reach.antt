@@ -1,17 +1,14 @@
 -- What a root reaches.
-use mathlib.Core.Path.{_≡_, refl, sym, ap, _∙_}
+use mathlib.Core.Path.{_≡_, refl}
 use Prim.Native.Nat.{ℕ, zero, suc, _+_, _-_, _≤_, _<_}
 use mathlib.Core.List.{List, [], _∷_, _++_}
-use mathlib.Core.Bool.{Bool, true, false}
 use native.Mathlib.Omega.{arith}
 use native.Mathlib.Decide.{decLe}
-use lib.ListN.{length}
 use lib.Dec.{eqb}
-use borrow.Author.Tests.{eq-eqb, ne-eqb}
 use Rattle.lists.specs.Lists.{pick, total}
-use Rattle.model.specs.Bag.{one, count, without, zerosOf, lastOnce, least}
+use Rattle.model.specs.Bag.{count}
 use Rattle.model.specs.Graph.{Graph, kids, waits, reached, reachDown, Ranked, Acyclic, Closed, Once, ParentsFirst, Rooted}
-use Rattle.model.proofs.Bags.{Same, same, other, sameOr, Zero, none, some, zeroOr, one-same, one-eq, one-other, count-here, count-append, count-without, length-without, total-without, total-part, total-bag, total-from, one-part, count-zerosOf, count-lastOnce, least-in, Top, top-of}
+use Rattle.model.proofs.Bags.{Same, same, other, sameOr, Zero, none, some, zeroOr, one-same, one-other, count-append}
 use Rattle.model.proofs.Waits.{waits-low}
 
 pub down-above : (g : Graph) (n : ℕ) (marks : List ℕ) (c : ℕ) → n ≤ c → count c (reachDown g n marks) ≡ 0

@@ -1,15 +1,15 @@
 -- The readings of closed objects: each is the reading of its object, and stands when another is closed.
 use mathlib.Core.Path.{_≡_, refl, sym, ap, _∙_}
 use Prim.Native.Nat.{ℕ, suc, _+_, _≤_, _<_}
-use mathlib.Core.List.{List, [], _∷_, _++_, append-assoc}
+use mathlib.Core.List.{List, [], _∷_, _++_}
 use native.Mathlib.Omega.{arith}
 use native.Mathlib.Decide.{decLe}
-use lib.ListN.{length, getD, length-append, List·getD-append, List·getD-eq-default}
+use lib.ListN.{length, length-append, List·getD-append, List·getD-eq-default}
 use lib.Seq.{getD-at}
 use Rattle.model.specs.Bag.{count}
 use Rattle.model.specs.Object.{Link, Object, noObject, objectAt}
-use Rattle.model.specs.Graph.{Graph, graphOf, kids, kidsOf, Ranked, Acyclic}
-use Rattle.model.specs.Reading.{Reading, bytes, field, readLinks, readingAt, readObject, Reads, readingsFrom, readings}
+use Rattle.model.specs.Graph.{graphOf, kidsOf, Ranked, Acyclic}
+use Rattle.model.specs.Reading.{Reading, bytes, readLinks, readingAt, readObject, Reads, readingsFrom, readings}
 use Rattle.model.proofs.Bags.{one-same}
 
 -- a reading is made of the children's readings alone

@@ -9,7 +9,7 @@ use lib.ListN.{length, take, drop, getD, length-append, length-drop, List·getD-
 use lib.Seq.{take-append-le, drop-append-le, drop-append-add, getD-append-add}
 use Rattle.lists.specs.Lists.{pick, part, total}
 use Rattle.answer.specs.declared.Overflow.{Overflow}
-use Rattle.field.specs.BigEndian.{fits, bigEndian, readBig}
+use Rattle.field.specs.BigEndian.{fits, readBig}
 use Rattle.field.proofs.Laws.{big-read}
 use Rattle.model.specs.Bag.{count}
 use Rattle.model.specs.Object.{Link}

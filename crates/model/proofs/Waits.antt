@@ -1,17 +1,12 @@
 -- How many fields still lead to an object.
-use mathlib.Core.Path.{_≡_, refl, sym, ap, _∙_}
-use Prim.Native.Nat.{ℕ, zero, suc, _+_, _-_, _≤_, _<_}
-use mathlib.Core.List.{List, [], _∷_, _++_}
-use mathlib.Core.Bool.{Bool, true, false}
+use mathlib.Core.Path.{_≡_}
+use Prim.Native.Nat.{ℕ, _+_, _-_, _≤_, _<_}
+use mathlib.Core.List.{List}
 use native.Mathlib.Omega.{arith}
-use native.Mathlib.Decide.{decLe}
-use lib.ListN.{length}
-use lib.Dec.{eqb}
-use borrow.Author.Tests.{eq-eqb, ne-eqb}
-use Rattle.lists.specs.Lists.{pick, total}
-use Rattle.model.specs.Bag.{one, count, without, zerosOf, lastOnce, least}
-use Rattle.model.specs.Graph.{Graph, kids, waits, reached, reachDown, Ranked, Acyclic, Closed, Once, ParentsFirst, Rooted}
-use Rattle.model.proofs.Bags.{Same, same, other, sameOr, Zero, none, some, zeroOr, one-same, one-eq, one-other, count-here, count-append, count-without, length-without, total-without, total-part, total-bag, total-from, one-part, count-zerosOf, count-lastOnce, least-in, Top, top-of}
+use Rattle.lists.specs.Lists.{total}
+use Rattle.model.specs.Bag.{count, without}
+use Rattle.model.specs.Graph.{Graph, kids, waits, Ranked, Once}
+use Rattle.model.proofs.Bags.{Zero, none, some, zeroOr, total-without, total-part, total-from}
 
 pub waits-without : (g : Graph) (x c : ℕ) (l : List ℕ) → 0 < count x l → waits g (without x l) c + count c (kids g x) ≡ waits g l c
 unfolding waits

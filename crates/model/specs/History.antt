@@ -8,7 +8,7 @@ use lib.Dec.{leb, ltb}
 use Rattle.lists.specs.Lists.{pick, total, firstThat}
 use Rattle.answer.specs.Number.{noTally}
 use Rattle.answer.specs.declared.Tally.{Tally}
-use Rattle.model.specs.Reading.{Reading, bytes, field, bytesOf, readingSize, fieldCount, readingAt, sameReading, Shows, below, different}
+use Rattle.model.specs.Reading.{Reading, bytes, field, readingSize, fieldCount, readingAt, sameReading, Shows, below, different}
 use Rattle.model.specs.Judge.{Limits, Needs, Verdict, accepted, refused, judgeStart, judgeOpen, judgePut, judgeLink, judgeClose, judgeDrop, judgeTally}
 use Rattle.model.specs.Told.{Told, doneClose, refusal}
 use Rattle.model.specs.Session.{Session, SessionCall, startCall, openCall, putCall, linkCall, closeCall, dropCall, tallyCall, Call, sessionCall, packCall, step, Packing, pack, afterCall}

@@ -1,7 +1,7 @@
 -- Paper 01, "What each number means": for each call the refusals in the paper's order, of which the first that applies is told.
 use Prim.Native.Nat.{ℕ, _+_}
 use mathlib.Core.List.{List, [], _∷_}
-use mathlib.Core.Bool.{Bool, true, false, not, _&&_}
+use mathlib.Core.Bool.{Bool, true, not, _&&_}
 use lib.Dec.{eqb, leb, ltb}
 use Rattle.lists.specs.Lists.{pick, holds}
 use Rattle.answer.specs.declared.Tally.{Tally}

@@ -1,0 +1,140 @@
+-- Paper 01, "The history of demand 3": every call of a list tells what the history says, whatever the calls are.
+use mathlib.Core.Path.{_≡_, refl, ap, _∙_}
+use Prim.Native.Nat.{ℕ, _<_}
+use mathlib.Core.List.{List, [], _∷_}
+use mathlib.Core.Bool.{true, true≢false}
+use native.Mathlib.Omega.{arith}
+use lib.ListN.{length}
+use lib.Dec.{leb}
+use borrow.Author.Tests.{leb-false}
+use Rattle.lists.specs.Lists.{pick}
+use Rattle.answer.specs.Number.{number, noTally}
+use Rattle.model.specs.Bag.{count}
+use Rattle.model.specs.Object.{noObject, sizeOf, withBytes, withLink}
+use Rattle.model.specs.Graph.{Graph, graphOf, reached}
+use Rattle.model.specs.Table.{Outcome, placed, overflow, arranged, tableLength, tableOf, Sized}
+use Rattle.model.specs.Reading.{Reading, readingAt, readings}
+use Rattle.model.specs.Judge.{Limits, Needs, Verdict, accepted, refused, judgeStart, judgeOpen, judgePut, judgeLink, judgeClose, judgeDrop, judgeTally, judgePack}
+use Rattle.model.specs.Told.{doneClose, donePack, refusal}
+use Rattle.model.specs.Session.{Session, tallyOf, started, withOpens, innermost, outer, onInnermost, twin, sealed, SessionCall, startCall, openCall, putCall, linkCall, closeCall, dropCall, tallyCall, Left, settle, step, Packing, content, tableIn, settlePack, pack, Call, sessionCall, packCall, afterCall}
+use Rattle.model.specs.History.{History, counts, begun, judged, accept, next, after, idTold, tell, expected, Packed, PackAgrees, Agrees, AllAgree}
+use Rattle.model.proofs.Reach.{reached-rooted, reached-low}
+use Rattle.model.proofs.Tables.{layout}
+use Rattle.model.proofs.Readings.{readings-read}
+use Rattle.model.proofs.Lengths.{length-different}
+use Rattle.model.proofs.Outcomes.{placed-arranged}
+use Rattle.model.proofs.Verdicts.{passes, beside-number, refused-number}
+use Rattle.model.proofs.Twins.{distinct-id, readings-count}
+use Rattle.model.proofs.Mirrors.{Mirrors, mirrors-started, mirrors-limits, mirrors-counts, mirrors-size, mirrors-acyclic, mirrors-fields, mirrors-twin, mirrors-open, mirrors-put, mirrors-link, mirrors-close, mirrors-drop}
+
+-- ---- the calls on a session
+
+-- a call that tells what the history says and leaves a session that mirrors the history after it
+record Follows (n : Needs) (c : SessionCall) (h : History) (l : Left) : Type 0 where
+  told : l .told ≡ expected n c h
+  mirrors : Mirrors (l .after) (after n (sessionCall c) h)
+
+-- an accepted call that tells id i and leaves s
+abbrev left : ℕ → Session → Left
+left i s = record { told = doneClose i (tallyOf s); after = s }
+
+module _ (n : Needs) {s : Session} {h : History} (m : Mirrors s h) where
+  -- so is every call that is judged alike, tells the same id and, where it is accepted, leaves what mirrors the history's change
+  settled : (c : SessionCall) (v : Verdict) (i : ℕ) (new : Session) → v ≡ judged n c h → i ≡ idTold c h → (v ≡ accepted → Mirrors new (accept c h))
+      → Follows n c h (settle v s (left i new))
+  unfolding expected after
+  settled c v i new e f k = record { told = rw (← e, ← f) (tells v k); mirrors = rw (← e) (keeps v k) }
+    where
+      tells : (v : Verdict) → (v ≡ accepted → Mirrors new (accept c h)) → settle v s (left i new) .told ≡ tell v (counts h) (doneClose i (counts (accept c h)))
+      tells accepted k = ap (doneClose i) (mirrors-counts (k refl))
+      tells (refused why) k = ap (refusal why) (mirrors-counts m)
+
+      keeps : (v : Verdict) → (v ≡ accepted → Mirrors new (accept c h)) → Mirrors (settle v s (left i new) .after) (next v (accept c h) h)
+      keeps accepted k = k refl
+      keeps (refused why) k = m
+
+  step-follows : (c : SessionCall) → Follows n c h (step n c s)
+  unfolding step judged accept idTold
+  step-follows (startCall l records) = settled (startCall l records) (judgeStart n l records) 0 (started l) refl refl (λ e. mirrors-started l)
+  step-follows openCall = settled openCall (judgeOpen true (tallyOf s)) 0 (withOpens (noObject ∷ s .opens) s) (cc (mirrors-counts m)) refl (λ e. mirrors-open m)
+  step-follows (putCall vs) =
+      settled (putCall vs) (judgePut true (s .limits) (tallyOf s) (length vs)) 0 (onInnermost (withBytes vs) s) (cc (mirrors-counts m, mirrors-limits m)) refl (λ e. mirrors-put m vs)
+  step-follows (linkCall w id) =
+      settled (linkCall w id) (judgeLink true (s .limits) (tallyOf s) w id) 0 (onInnermost (withLink w id) s) (cc (mirrors-counts m, mirrors-limits m)) refl
+      (λ e. mirrors-link m w id (leb-false (length (s .closed)) id (passes _ e 3)))
+  step-follows closeCall =
+      settled closeCall (judgeClose true (s .limits) (tallyOf s) (sizeOf (innermost (s .opens))) (twin s)) (twin s) (sealed s)
+      (cc (mirrors-counts m, mirrors-limits m, mirrors-size m, mirrors-twin m)) (mirrors-twin m) (λ e. mirrors-close m)
+  step-follows dropCall = settled dropCall (judgeDrop true (tallyOf s)) 0 (withOpens (outer (s .opens)) s) (cc (mirrors-counts m)) refl (λ e. mirrors-drop m)
+  step-follows tallyCall = settled tallyCall (judgeTally true) 0 s refl refl (λ e. m)
+
+-- ---- pack
+
+module _ {s : Session} {h : History} (m : Mirrors s h) (id : ℕ) where
+  abbrev g : Graph
+  g = graphOf (s .closed)
+
+  abbrev ρ : ℕ → Reading
+  ρ i = readingAt (readings (s .closed)) i
+
+  -- an accepted pack that leaves table t
+  abbrev packing : List ℕ → Packing
+  packing t = record { told = donePack (tableLength g id) (tallyOf s); table = t }
+
+  -- reached objects that read the same are the same
+  reached-id : id < length (s .closed) → (a b : ℕ) → 0 < count a (reached g id) → 0 < count b (reached g id) → ρ a ≡ ρ b → a ≡ b
+  reached-id k a b x y =
+      let e = readings-count (s .closed) in
+      distinct-id (readings (s .closed)) (m .distinct) a b (omega (arith, reached-low g id a x)) (omega (arith, reached-low g id b y))
+
+  -- the table of an order that fits
+  placed-packed : id < length (s .closed) → (o : List ℕ) → arranged g id ≡ placed o → Packed h id (packing (tableOf g (content s) o))
+  unfolding tableLength
+  placed-packed k o e =
+      let y = mirrors-acyclic m in
+      let a = placed-arranged g id y o e in
+      let r = reached-rooted g id y in
+      let sized : Sized g (content s) = (unfold Sized in λ i. refl) in
+      let reads = readings-read (s .closed) y in
+      let l = layout g (content s) (reached g id) id ρ o r sized (mirrors-fields m) reads (a .once) (a .first) (a .fit) in
+      rw (← m .read) record { shown = l .shown; long = l .sum; sum = length-different (λ i. i) g (content s) ρ (reached g id) id y r sized reads (reached-id k) }
+
+  pack-agrees : (n : Needs) (out work : ℕ) → PackAgrees h id (pack n id out work s)
+  unfolding pack
+  pack-agrees n out work = settled-pack (verdictOn (arranged g id)) (tableIn s (arranged g id)) (fits (arranged g id) refl)
+    where
+      verdictOn : Outcome → Verdict
+      verdictOn u = judgePack true n (s .limits) (tallyOf s) id out work (tableLength g id) u
+
+      fits : (u : Outcome) → arranged g id ≡ u → verdictOn u ≡ accepted → Packed h id (packing (tableIn s u))
+      fits (placed o) e v = placed-packed (leb-false (length (s .closed)) id (passes _ v 3)) o e
+      fits (overflow u) e v = absurd (true≢false (passes _ v 5))
+
+      settled-pack : (v : Verdict) (t : List ℕ) → (v ≡ accepted → Packed h id (packing t)) → PackAgrees h id (settlePack v s (packing t))
+      settled-pack accepted t k = record { counted = mirrors-counts m; packed = λ e. k refl }
+      settled-pack (refused why) t k = record {
+        counted = beside-number why (tallyOf s) ∙ ap (pick (leb 12 (number why)) noTally) (mirrors-counts m);
+        packed = λ e. absurd (omega (arith, refused-number why));
+      }
+
+-- ---- every call, and a list of calls
+
+module _ (n : Needs) {s : Session} {h : History} (m : Mirrors s h) where
+  pub call-agrees : (c : Call) → Agrees n c s h
+  unfolding Agrees
+  call-agrees (sessionCall c) = step-follows n m c .told
+  call-agrees (packCall id out work) = pack-agrees m id n out work
+
+  pub call-mirrors : (c : Call) → Mirrors (afterCall n c s) (after n c h)
+  unfolding afterCall after
+  call-mirrors (sessionCall c) = step-follows n m c .mirrors
+  call-mirrors (packCall id out work) = m
+
+mirrors-agree : (n : Needs) (cs : List Call) {s : Session} {h : History} → Mirrors s h → AllAgree n cs s h
+unfolding AllAgree
+mirrors-agree n [] m = tt
+mirrors-agree n (c ∷ cs) m = (call-agrees n m c, mirrors-agree n cs (call-mirrors n m c))
+
+-- from what an accepted start left
+pub agreement : (n : Needs) (m : Limits) (cs : List Call) → AllAgree n cs (started m) (begun m)
+agreement n m cs = mirrors-agree n cs (mirrors-started m)
