@@ -14,9 +14,9 @@ use Rattle.model.specs.Object.{noObject, sizeOf, withBytes, withLink}
 use Rattle.model.specs.Graph.{Graph, graphOf, reached}
 use Rattle.model.specs.Table.{Outcome, placed, overflow, arranged, tableLength, tableOf, Sized}
 use Rattle.model.specs.Reading.{Reading, readingAt, readings}
-use Rattle.model.specs.Judge.{Limits, Needs, Verdict, accepted, refused, judgeStart, judgeOpen, judgePut, judgeLink, judgeClose, judgeDrop, judgeTally, judgePack}
+use Rattle.model.specs.Judge.{Limits, Verdict, accepted, refused, judgeStart, judgeOpen, judgePut, judgeLink, judgeClose, judgeDrop, judgeTally, judgePack}
 use Rattle.model.specs.Told.{doneClose, donePack, refusal}
-use Rattle.model.specs.Session.{Session, tallyOf, started, withOpens, innermost, outer, onInnermost, twin, sealed, SessionCall, startCall, openCall, putCall, linkCall, closeCall, dropCall, tallyCall, Left, settle, step, Packing, content, tableIn, settlePack, pack, Call, sessionCall, packCall, afterCall}
+use Rattle.model.specs.Session.{Needs, Session, tallyOf, started, withOpens, innermost, outer, onInnermost, twin, sealed, SessionCall, startCall, openCall, putCall, linkCall, closeCall, dropCall, tallyCall, Left, settle, step, Packing, content, tableIn, settlePack, pack, Call, sessionCall, packCall, afterCall}
 use Rattle.model.specs.History.{History, counts, begun, judged, accept, next, after, idTold, tell, expected, Packed, PackAgrees, Agrees, AllAgree}
 use Rattle.model.proofs.Reach.{reached-rooted, reached-low}
 use Rattle.model.proofs.Tables.{layout}
@@ -55,7 +55,7 @@ module _ (n : Needs) {s : Session} {h : History} (m : Mirrors s h) where
 
   step-follows : (c : SessionCall) → Follows n c h (step n c s)
   unfolding step judged accept idTold
-  step-follows (startCall l records) = settled (startCall l records) (judgeStart n l records) 0 (started l) refl refl (λ e. mirrors-started l)
+  step-follows (startCall l records) = settled (startCall l records) (judgeStart l (n .records l) records) 0 (started l) refl refl (λ e. mirrors-started l)
   step-follows openCall = settled openCall (judgeOpen true (tallyOf s)) 0 (withOpens (noObject ∷ s .opens) s) (cc (mirrors-counts m)) refl (λ e. mirrors-open m)
   step-follows (putCall vs) =
       settled (putCall vs) (judgePut true (s .limits) (tallyOf s) (length vs)) 0 (onInnermost (withBytes vs) s) (cc (mirrors-counts m, mirrors-limits m)) refl (λ e. mirrors-put m vs)
@@ -104,7 +104,7 @@ module _ {s : Session} {h : History} (m : Mirrors s h) (id : ℕ) where
   pack-agrees n out work = settled-pack (verdictOn (arranged g id)) (tableIn s (arranged g id)) (fits (arranged g id) refl)
     where
       verdictOn : Outcome → Verdict
-      verdictOn u = judgePack true n (s .limits) (tallyOf s) id out work (tableLength g id) u
+      verdictOn u = judgePack true (tallyOf s) id work (n .work (s .limits)) out (tableLength g id) u
 
       fits : (u : Outcome) → arranged g id ≡ u → verdictOn u ≡ accepted → Packed h id (packing (tableIn s u))
       fits (placed o) e v = placed-packed (leb-false (length (s .closed)) id (passes _ v 3)) o e

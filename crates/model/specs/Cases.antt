@@ -11,8 +11,8 @@ use Rattle.model.specs.Graph.{kidsOf, waits, reachDown, reached}
 use Rattle.model.specs.Order.{orderFrom, orderBy}
 use Rattle.model.specs.Distance.{relax, relaxAll, distancesBy, beyond, distance, kahnOrder, distanceOrder}
 use Rattle.model.specs.Table.{before, offset, unfitLinks, unfitFrom, tryOrder, tryLast, firstFit, arranged, tableLength, filled, objectBytes, tableFrom, tableOf}
-use Rattle.model.specs.Judge.{Limits, Needs, verdict}
-use Rattle.model.specs.Session.{Session, started, tallyOf, SessionCall, startCall, openCall, putCall, linkCall, closeCall, dropCall, tallyCall, step, pack, Call, sessionCall, packCall, afterCall}
+use Rattle.model.specs.Judge.{Limits, verdict}
+use Rattle.model.specs.Session.{Needs, Session, started, tallyOf, SessionCall, startCall, openCall, putCall, linkCall, closeCall, dropCall, tallyCall, step, pack, Call, sessionCall, packCall, afterCall}
 
 -- from a fresh session: the number that each call tells, the id of each close, the four counts at the end, and all tables
 pub record Case : Type 0 where
@@ -27,7 +27,7 @@ pub record Case : Type 0 where
 
 -- the needs of lent memory play no part here
 abbrev noNeeds : Needs
-noNeeds = record { records = λ p l. 0; work = λ p l. 0 }
+noNeeds = record { records = λ m. 0; work = λ m. 0 }
 
 unfoldable pub numbersOf : List Call → Session → List ℕ
 numbersOf [] s = []

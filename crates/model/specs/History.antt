@@ -9,9 +9,9 @@ use Rattle.lists.specs.Lists.{pick, total, firstThat}
 use Rattle.answer.specs.Number.{noTally}
 use Rattle.answer.specs.declared.Tally.{Tally}
 use Rattle.model.specs.Reading.{Reading, bytes, field, readingSize, fieldCount, readingAt, sameReading, Shows, below, different}
-use Rattle.model.specs.Judge.{Limits, Needs, Verdict, accepted, refused, judgeStart, judgeOpen, judgePut, judgeLink, judgeClose, judgeDrop, judgeTally}
+use Rattle.model.specs.Judge.{Limits, Verdict, accepted, refused, judgeStart, judgeOpen, judgePut, judgeLink, judgeClose, judgeDrop, judgeTally}
 use Rattle.model.specs.Told.{Told, doneClose, refusal}
-use Rattle.model.specs.Session.{Session, SessionCall, startCall, openCall, putCall, linkCall, closeCall, dropCall, tallyCall, Call, sessionCall, packCall, step, Packing, pack, afterCall}
+use Rattle.model.specs.Session.{Needs, Session, SessionCall, startCall, openCall, putCall, linkCall, closeCall, dropCall, tallyCall, Call, sessionCall, packCall, step, Packing, pack, afterCall}
 
 -- objects as their readings so far: the open ones, the innermost first, and the closed ones numbered from 0
 pub record History : Type 0 where
@@ -78,7 +78,7 @@ closes h =
 -- ---- each call but pack: judged by the table, with the history's own counts; 12 never applies
 
 unfoldable pub judged : Needs → SessionCall → History → Verdict
-judged n (startCall m records) h = judgeStart n m records
+judged n (startCall m records) h = judgeStart m (n .records m) records
 judged n openCall h = judgeOpen true (counts h)
 judged n (putCall vs) h = judgePut true (h .limits) (counts h) (length vs)
 judged n (linkCall w id) h = judgeLink true (h .limits) (counts h) w id

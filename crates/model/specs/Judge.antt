@@ -31,11 +31,6 @@ pub record Limits : Type 0 where
   pub links : ℕ
   pub bytes : ℕ
 
--- how many words the record store and the work memory need, by object limit and link limit
-pub record Needs : Type 0 where
-  pub records : ℕ → ℕ → ℕ
-  pub work : ℕ → ℕ → ℕ
-
 -- ---- verdicts
 
 pub data Verdict : Type 0 where
@@ -73,10 +68,9 @@ storeFull m t n = when (ltb (m .bytes) (t .bytes + n)) Refusal.StoreFull
 abbrev pub inRange : Limits → List Bool
 inRange m = leb 1 (m .objects) ∷ leb (m .objects) mostObjects ∷ leb (m .links) mostLinks ∷ leb 1 (m .bytes) ∷ leb (m .bytes) mostBytes ∷ []
 
--- `records` words are lent
-abbrev pub judgeStart : Needs → Limits → ℕ → Verdict
-judgeStart n m records =
-    verdict (when (not (holds (inRange m) && leb (n .records (m .objects) (m .links)) records)) Refusal.OutOfRange ∷ [])
+-- `records` words are lent, and `need` are needed
+abbrev pub judgeStart : Limits → ℕ → ℕ → Verdict
+judgeStart m need records = verdict (when (not (holds (inRange m) && leb need records)) Refusal.OutOfRange ∷ [])
 
 abbrev pub judgeOpen : Bool → Tally → Verdict
 judgeOpen sound t = verdict (unsound sound ∷ when (leb mostOpen (t .depth)) Refusal.DepthFull ∷ [])
@@ -115,12 +109,12 @@ abbrev pub overflows : Outcome → List Test
 overflows (placed o) = []
 overflows (overflow u) = when true (Refusal.Overflow u) ∷ []
 
--- `out` bytes and `work` words are lent; the table has `length` bytes
-abbrev pub judgePack : Bool → Needs → Limits → Tally → ℕ → ℕ → ℕ → ℕ → Outcome → Verdict
-judgePack sound n m t id out work length outcome =
+-- `work` words are lent, and `need` are needed; `out` bytes are lent, and the table has `length`
+abbrev pub judgePack : Bool → Tally → ℕ → ℕ → ℕ → ℕ → ℕ → Outcome → Verdict
+judgePack sound t id work need out length outcome =
     verdict
     (unsound sound
-    ∷ when (ltb work (n .work (m .objects) (m .links))) Refusal.OutOfRange
+    ∷ when (ltb work need) Refusal.OutOfRange
     ∷ when (not (eqb (t .depth) 0)) Refusal.ObjectOpen
     ∷ notClosed t id
     ∷ when (ltb out length) Refusal.OutputShort

@@ -9,8 +9,13 @@ use Rattle.answer.specs.declared.Tally.{Tally}
 use Rattle.model.specs.Object.{Object, noObject, objectAt, sizeOf, linkCount, withBytes, withLink, sameObject}
 use Rattle.model.specs.Graph.{graphOf}
 use Rattle.model.specs.Table.{Outcome, placed, overflow, arranged, tableLength, tableOf}
-use Rattle.model.specs.Judge.{Limits, Needs, Verdict, accepted, refused, judgeStart, judgeOpen, judgePut, judgeLink, judgeClose, judgeDrop, judgeTally, judgePack}
+use Rattle.model.specs.Judge.{Limits, Verdict, accepted, refused, judgeStart, judgeOpen, judgePut, judgeLink, judgeClose, judgeDrop, judgeTally, judgePack}
 use Rattle.model.specs.Told.{Told, done, doneClose, donePack, refusal}
+
+-- how many words the record store and the work memory need for given limits
+pub record Needs : Type 0 where
+  pub records : Limits → ℕ
+  pub work : Limits → ℕ
 
 -- the open objects, the innermost first; the closed ones by id
 pub record Session : Type 0 where
@@ -86,7 +91,7 @@ abbrev pub leaves : Session → Left
 leaves s = record { told = done (tallyOf s); after = s }
 
 unfoldable pub step : Needs → SessionCall → Session → Left
-step n (startCall m records) s = settle (judgeStart n m records) s (leaves (started m))
+step n (startCall m records) s = settle (judgeStart m (n .records m) records) s (leaves (started m))
 step n openCall s = settle (judgeOpen true (tallyOf s)) s (leaves (withOpens (noObject ∷ s .opens) s))
 step n (putCall vs) s = settle (judgePut true (s .limits) (tallyOf s) (length vs)) s (leaves (onInnermost (withBytes vs) s))
 step n (linkCall w id) s = settle (judgeLink true (s .limits) (tallyOf s) w id) s (leaves (onInnermost (withLink w id) s))
@@ -119,7 +124,7 @@ pack n id out work s =
     let g = graphOf (s .closed) in
     let outcome = arranged g id in
     let size = tableLength g id in
-    settlePack (judgePack true n (s .limits) (tallyOf s) id out work size outcome) s
+    settlePack (judgePack true (tallyOf s) id work (n .work (s .limits)) out size outcome) s
     (record { told = donePack size (tallyOf s); table = tableIn s outcome })
 
 -- ---- the eight calls
