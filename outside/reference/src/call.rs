@@ -1,0 +1,94 @@
+//! Calls as values, and the memory that they are run on.
+
+use crate::answer::Answer;
+use crate::history::History;
+use crate::pack::pack;
+use crate::session;
+
+/// A call with its arguments. A pack lends an output and a work memory of the
+/// given lengths.
+#[derive(Clone, Debug, PartialEq, Eq)]
+pub enum Call {
+    Start { pieces: u32, links: u32 },
+    Open,
+    Put(Vec<u8>),
+    Link { width: u32, id: u32 },
+    Close,
+    Drop,
+    Tally,
+    Pack { id: u32, output: usize, work: usize },
+}
+
+/// The two stores that every call of a run lends.
+#[derive(Clone, Debug, PartialEq, Eq)]
+pub struct Stores {
+    pub bytes: Vec<u8>,
+    pub records: Vec<u32>,
+}
+
+/// What a call tells, and what a pack leaves in its own memory.
+#[derive(Clone, Debug, PartialEq, Eq)]
+pub struct Told {
+    pub answer: Answer,
+    pub output: Vec<u8>,
+    pub work: Vec<u64>,
+}
+
+/// What lent memory holds before it is written.
+pub const STALE_BYTE: u8 = 0xa5;
+pub const STALE_RECORD: u32 = 0xa5a5_a5a5;
+pub const STALE_WORK: u64 = 0xa5a5_a5a5_a5a5_a5a5;
+
+impl Stores {
+    pub fn new(bytes: usize, records: usize) -> Stores {
+        Stores {
+            bytes: vec![STALE_BYTE; bytes],
+            records: vec![STALE_RECORD; records],
+        }
+    }
+
+    pub fn run(&mut self, call: &Call) -> Told {
+        let (bytes, records) = (&mut self.bytes[..], &mut self.records[..]);
+        let (mut output, mut work) = (Vec::new(), Vec::new());
+        let answer = match call {
+            Call::Start { pieces, links } => session::start(bytes, records, *pieces, *links),
+            Call::Open => session::open(bytes, records),
+            Call::Put(added) => session::put(bytes, records, added),
+            Call::Link { width, id } => session::link(bytes, records, *width, *id),
+            Call::Close => session::close(bytes, records),
+            Call::Drop => session::drop(bytes, records),
+            Call::Tally => session::tally(bytes, records),
+            Call::Pack {
+                id,
+                output: length,
+                work: words,
+            } => {
+                output = vec![STALE_BYTE; *length];
+                work = vec![STALE_WORK; *words];
+                pack(bytes, records, *id, &mut output, &mut work)
+            }
+        };
+        Told {
+            answer,
+            output,
+            work,
+        }
+    }
+}
+
+impl History {
+    /// Feeds a call that lends stores of these lengths. A pack changes nothing
+    /// and is not judged here.
+    pub fn feed(&mut self, call: &Call, store: usize, records: usize) -> Option<Answer> {
+        match call {
+            Call::Start { pieces, links } => Some(self.start(*pieces, *links, store, records)),
+            Call::Open => Some(self.open()),
+            Call::Put(added) => Some(self.put(added)),
+            Call::Link { width, id } => Some(self.link(*width, *id)),
+            Call::Close => Some(self.close()),
+            Call::Drop => Some(self.drop_piece()),
+            Call::Tally => Some(self.tally()),
+            Call::Pack { .. } => None,
+        }
+    }
+}

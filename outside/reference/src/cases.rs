@@ -1,0 +1,209 @@
+//! The fifteen hand-counted cases as lists of calls.
+
+use crate::call::Call;
+use crate::limits;
+
+/// A run of calls on a byte store and a record store of the given lengths.
+#[derive(Clone, Debug)]
+pub struct Case {
+    pub name: &'static str,
+    pub store: usize,
+    pub records: usize,
+    pub calls: Vec<Call>,
+    work: usize,
+}
+
+impl Case {
+    /// A case that begins by starting a session with these limits. The record
+    /// store and the work memory of its packs are just as long as needed.
+    pub fn new(name: &'static str, pieces: u32, links: u32, store: usize) -> Case {
+        Case {
+            name,
+            store,
+            records: limits::record_need(pieces.into(), links.into()) as usize,
+            calls: vec![Call::Start { pieces, links }],
+            work: limits::work_need(pieces.into(), links.into()) as usize,
+        }
+    }
+
+    /// More words in the record store.
+    pub fn surplus(mut self, words: usize) -> Case {
+        self.records += words;
+        self
+    }
+
+    pub fn call(mut self, call: Call) -> Case {
+        self.calls.push(call);
+        self
+    }
+
+    pub fn start(mut self, pieces: u32, links: u32) -> Case {
+        self.work = limits::work_need(pieces.into(), links.into()) as usize;
+        self.call(Call::Start { pieces, links })
+    }
+
+    pub fn open(self) -> Case {
+        self.call(Call::Open)
+    }
+
+    pub fn put(self, bytes: &[u8]) -> Case {
+        self.call(Call::Put(bytes.to_vec()))
+    }
+
+    /// A put of one byte many times over.
+    pub fn fill(self, byte: u8, length: usize) -> Case {
+        self.call(Call::Put(vec![byte; length]))
+    }
+
+    pub fn link(self, width: u32, id: u32) -> Case {
+        self.call(Call::Link { width, id })
+    }
+
+    pub fn close(self) -> Case {
+        self.call(Call::Close)
+    }
+
+    pub fn drop_piece(self) -> Case {
+        self.call(Call::Drop)
+    }
+
+    pub fn tally(self) -> Case {
+        self.call(Call::Tally)
+    }
+
+    pub fn pack(self, id: u32, output: usize) -> Case {
+        let work = self.work;
+        self.call(Call::Pack { id, output, work })
+    }
+
+    /// Opens a piece, puts its bytes if it has any, links and closes.
+    pub fn piece(self, bytes: &[u8], links: &[(u32, u32)]) -> Case {
+        let opened = self.open();
+        let filled = if bytes.is_empty() {
+            opened
+        } else {
+            opened.put(bytes)
+        };
+        filled.links(links).close()
+    }
+
+    pub fn links(self, links: &[(u32, u32)]) -> Case {
+        links
+            .iter()
+            .fold(self, |case, &(width, id)| case.link(width, id))
+    }
+
+    /// A closed piece of one byte many times over.
+    pub fn leaf(self, byte: u8, length: usize) -> Case {
+        self.open().fill(byte, length).close()
+    }
+}
+
+pub fn paper_cases() -> Vec<Case> {
+    vec![
+        case_1(),
+        case_2("2 store 11", 11),
+        case_2("2 store 12", 12),
+        Case::new("3", 2, 2, 8)
+            .piece(b"x", &[])
+            .piece(&[], &[(2, 0), (2, 0)])
+            .pack(1, 5),
+        Case::new("4", 2, 1, 8)
+            .piece(b"x", &[])
+            .piece(&[], &[(4, 0)])
+            .pack(1, 5),
+        Case::new("5", 3, 3, 8)
+            .piece(b"x", &[])
+            .piece(&[], &[(2, 0)])
+            .piece(&[], &[(2, 0), (2, 1)])
+            .pack(2, 7),
+        Case::new("6", 2, 0, 4)
+            .piece(b"d", &[])
+            .piece(b"e", &[])
+            .pack(1, 1),
+        Case::new("7", 1, 0, 4)
+            .piece(b"d", &[])
+            .piece(b"d", &[])
+            .piece(b"e", &[])
+            .tally(),
+        case_8(),
+        Case::new("9", 1, 0, 4)
+            .open()
+            .put(b"abc")
+            .drop_piece()
+            .tally(),
+        Case::new("10", 1, 0, 4).tally().pack(0, 4),
+        two_leaves("11", 65_531, 10),
+        two_leaves("12", 65_532, 10),
+        two_leaves("13", 65_532, 65_532),
+        case_14(),
+        (0..65).fold(Case::new("15", 1, 0, 4), |case, _| case.open()),
+    ]
+}
+
+fn case_1() -> Case {
+    before_last_link(Case::new("1", 4, 4, 16))
+        .link(2, 2)
+        .close()
+        .tally()
+        .pack(3, 12)
+}
+
+fn case_2(name: &'static str, store: usize) -> Case {
+    before_last_link(Case::new(name, 4, 4, store))
+        .link(2, 2)
+        .tally()
+}
+
+fn before_last_link(case: Case) -> Case {
+    case.piece(b"d", &[])
+        .piece(b"b", &[(2, 0)])
+        .piece(b"d", &[])
+        .piece(b"c", &[(2, 0)])
+        .open()
+        .put(b"a")
+        .link(2, 1)
+}
+
+fn case_8() -> Case {
+    Case::new("8", 1, 1, 4)
+        .put(b"a")
+        .put(b"")
+        .link(2, 0)
+        .close()
+        .drop_piece()
+        .open()
+        .close()
+        .put(b"")
+        .close()
+        .tally()
+}
+
+/// Leaves x, of `78`, and y, of `79`, and a root with a width-2 link to each.
+fn two_leaves(name: &'static str, x: usize, y: usize) -> Case {
+    Case::new(name, 3, 2, 140_000)
+        .leaf(b'x', x)
+        .leaf(b'y', y)
+        .piece(&[], &[(2, 0), (2, 1)])
+        .pack(2, 4 + x + y)
+}
+
+/// Closed in the order f, g, d, e, b, c, a.
+fn case_14() -> Case {
+    Case::new("14", 7, 6, 90_000)
+        .piece(b"f", &[])
+        .piece(b"g", &[])
+        .open()
+        .link(2, 0)
+        .fill(b'z', 39_998)
+        .close()
+        .open()
+        .link(2, 1)
+        .fill(b'z', 39_998)
+        .close()
+        .piece(&[], &[(2, 2)])
+        .piece(&[], &[(2, 3)])
+        .piece(&[], &[(4, 4), (4, 5)])
+        .tally()
+        .pack(6, 80_014)
+}

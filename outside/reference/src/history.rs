@@ -1,0 +1,183 @@
+//! The history of a run: what the calls must tell and what the pieces must
+//! read, from the calls' arguments alone.
+
+use crate::answer::Answer;
+use crate::reading::{same, Draft, Reading};
+use std::collections::{HashMap, HashSet};
+use std::rc::Rc;
+
+#[derive(Debug)]
+pub struct History {
+    piece_limit: usize,
+    link_limit: usize,
+    store_length: usize,
+    /// Oldest first.
+    open: Vec<Draft>,
+    /// By id.
+    closed: Vec<Rc<Reading>>,
+}
+
+impl History {
+    /// The history that a first start begins, if that start is accepted.
+    pub fn begin(pieces: u32, links: u32, store: usize, records: usize) -> Option<History> {
+        let words = 135 + 2 * u64::from(pieces) + 3 * u64::from(links);
+        let accepted = (1..=4_096).contains(&pieces)
+            && links <= 16_384
+            && (1..=1_048_576).contains(&store)
+            && records as u64 >= words;
+        accepted.then(|| History {
+            piece_limit: pieces as usize,
+            link_limit: links as usize,
+            store_length: store,
+            open: Vec::new(),
+            closed: Vec::new(),
+        })
+    }
+
+    /// A later start on the same stores.
+    pub fn start(&mut self, pieces: u32, links: u32, store: usize, records: usize) -> Answer {
+        match History::begin(pieces, links, store, records) {
+            Some(fresh) => {
+                *self = fresh;
+                self.tell(0)
+            }
+            None => Answer::bare(13),
+        }
+    }
+
+    pub fn open(&mut self) -> Answer {
+        if self.open.len() == 64 {
+            return self.tell(2);
+        }
+        self.open.push(Draft::default());
+        self.tell(0)
+    }
+
+    pub fn put(&mut self, bytes: &[u8]) -> Answer {
+        let passes = self.passes_store(bytes.len());
+        let Some(piece) = self.open.last_mut() else {
+            return self.tell(1);
+        };
+        if passes {
+            return self.tell(6);
+        }
+        piece.put(bytes);
+        self.tell(0)
+    }
+
+    pub fn link(&mut self, width: u32, id: u32) -> Answer {
+        let child = self.reading(id).cloned();
+        let links_at_limit = self.field_sum() == self.link_limit;
+        let passes = self.passes_store(width as usize);
+        let Some(piece) = self.open.last_mut() else {
+            return self.tell(1);
+        };
+        if ![2, 4].contains(&width) {
+            return self.tell(3);
+        }
+        let Some(child) = child else {
+            return self.tell(4);
+        };
+        if links_at_limit {
+            return self.tell(7);
+        }
+        if passes {
+            return self.tell(6);
+        }
+        piece.link(width as usize, child);
+        self.tell(0)
+    }
+
+    pub fn close(&mut self) -> Answer {
+        let Some(piece) = self.open.last() else {
+            return self.tell(1);
+        };
+        if piece.size() == 0 {
+            return self.tell(5);
+        }
+        let reading = piece.finish();
+        let equal = self.closed.iter().position(|kept| same(kept, &reading));
+        if equal.is_none() && self.closed.len() == self.piece_limit {
+            return self.tell(8);
+        }
+        self.open.pop();
+        let id = equal.unwrap_or(self.closed.len());
+        if equal.is_none() {
+            self.closed.push(reading);
+        }
+        Answer {
+            id: id as u64,
+            ..self.tell(0)
+        }
+    }
+
+    pub fn drop_piece(&mut self) -> Answer {
+        match self.open.pop() {
+            Some(_) => self.tell(0),
+            None => self.tell(1),
+        }
+    }
+
+    pub fn tally(&self) -> Answer {
+        self.tell(0)
+    }
+
+    /// The reading that an id stands for now.
+    pub fn reading(&self, id: u32) -> Option<&Rc<Reading>> {
+        self.closed.get(id as usize)
+    }
+
+    /// The length of a table packed now from an id: the sum of the sizes of the
+    /// different readings among the root's and all those below it.
+    pub fn table_length(&self, id: u32) -> Option<u64> {
+        let root = self.reading(id)?;
+        let different = different_readings(root);
+        Some(different.iter().map(|reading| reading.size() as u64).sum())
+    }
+
+    /// The sizes of all the pieces kept, open and closed.
+    pub fn sum(&self) -> usize {
+        let open: usize = self.open.iter().map(Draft::size).sum();
+        let closed: usize = self.closed.iter().map(|reading| reading.size()).sum();
+        open + closed
+    }
+
+    fn field_sum(&self) -> usize {
+        let open: usize = self.open.iter().map(Draft::field_count).sum();
+        let closed: usize = self.closed.iter().map(|r| r.fields().len()).sum();
+        open + closed
+    }
+
+    fn passes_store(&self, more: usize) -> bool {
+        self.sum().saturating_add(more) > self.store_length
+    }
+
+    fn tell(&self, number: u64) -> Answer {
+        Answer {
+            number,
+            bytes: self.sum() as u64,
+            links: self.field_sum() as u64,
+            objects: self.closed.len() as u64,
+            depth: self.open.len() as u64,
+            ..Answer::default()
+        }
+    }
+}
+
+/// The different readings among a root's and all those below it.
+fn different_readings(root: &Rc<Reading>) -> Vec<&Rc<Reading>> {
+    let mut met = HashSet::new();
+    let mut by_mark: HashMap<u64, Vec<&Rc<Reading>>> = HashMap::new();
+    let mut waiting = vec![root];
+    while let Some(reading) = waiting.pop() {
+        if !met.insert(Rc::as_ptr(reading)) {
+            continue;
+        }
+        let alike = by_mark.entry(reading.mark()).or_default();
+        if !alike.iter().any(|other| same(other, reading)) {
+            alike.push(reading);
+        }
+        waiting.extend(reading.fields().iter().map(|field| &field.child));
+    }
+    by_mark.into_values().flatten().collect()
+}

@@ -1,0 +1,31 @@
+//! A reference implementation of the table packer.
+//!
+//! Pieces of a font table are written into a session on two lent stores, equal
+//! pieces are kept once, and one root is packed into table bytes with its
+//! offsets filled in.
+//!
+//! * [`session`] and [`pack`] are the eight calls.
+//! * [`history`] says what the calls must tell, from their arguments alone.
+//! * [`reader`] checks that a packed table shows a reading.
+
+#![forbid(unsafe_code)]
+
+pub mod answer;
+pub mod call;
+pub mod cases;
+pub mod graph;
+pub mod graphs;
+pub mod history;
+pub mod limits;
+pub mod lines;
+pub mod orders;
+pub mod pack;
+pub mod reader;
+pub mod reading;
+pub mod session;
+pub mod sound;
+pub mod traps;
+pub mod view;
+
+pub use answer::Answer;
+pub use pack::pack;

@@ -1,0 +1,28 @@
+//! The ranges of the limits and how many words the lent memories need.
+
+pub const MOST_PIECES: u64 = 4_096;
+pub const MOST_LINKS: u64 = 16_384;
+pub const LONGEST_STORE: u64 = 1_048_576;
+pub const DEEPEST: u64 = 64;
+
+pub fn pieces_in_range(pieces: u64) -> bool {
+    (1..=MOST_PIECES).contains(&pieces)
+}
+
+pub fn links_in_range(links: u64) -> bool {
+    links <= MOST_LINKS
+}
+
+pub fn store_in_range(length: usize) -> bool {
+    (1..=LONGEST_STORE).contains(&(length as u64))
+}
+
+/// Words of the record store for the limits.
+pub fn record_need(pieces: u64, links: u64) -> u64 {
+    135 + 2 * pieces + 3 * links
+}
+
+/// Words of pack's work memory for the limits.
+pub fn work_need(pieces: u64, links: u64) -> u64 {
+    9 * pieces + 3 * links
+}

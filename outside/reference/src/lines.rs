@@ -1,0 +1,61 @@
+//! Calls, answers and memory as lines of text.
+
+use crate::answer::Answer;
+use crate::call::Call;
+use std::fmt::Display;
+
+/// What a call tells.
+pub fn told(call: &Call, answer: &Answer) -> String {
+    let counts = format!(
+        "{} number={} bytes={} links={} objects={} depth={}",
+        name(call),
+        answer.number,
+        answer.bytes,
+        answer.links,
+        answer.objects,
+        answer.depth
+    );
+    match call {
+        Call::Close => format!("{counts} id={}", answer.id),
+        Call::Pack { .. } => format!(
+            "{counts} length={} parent={} field={} needed={}",
+            answer.length, answer.parent, answer.field, answer.needed
+        ),
+        _ => counts,
+    }
+}
+
+/// A call with its arguments.
+pub fn arguments(call: &Call) -> String {
+    match call {
+        Call::Start { pieces, links } => format!("start pieces={pieces} links={links}"),
+        Call::Put(bytes) if bytes.len() <= 16 => format!("put bytes={}", hex(bytes)),
+        Call::Put(bytes) => format!("put first={} length={}", hex(&bytes[..1]), bytes.len()),
+        Call::Link { width, id } => format!("link width={width} id={id}"),
+        Call::Pack { id, output, work } => format!("pack id={id} output={output} work={work}"),
+        _ => name(call).to_string(),
+    }
+}
+
+fn name(call: &Call) -> &'static str {
+    match call {
+        Call::Start { .. } => "start",
+        Call::Open => "open",
+        Call::Put(_) => "put",
+        Call::Link { .. } => "link",
+        Call::Close => "close",
+        Call::Drop => "drop",
+        Call::Tally => "tally",
+        Call::Pack { .. } => "pack",
+    }
+}
+
+pub fn hex(bytes: &[u8]) -> String {
+    bytes.iter().map(|byte| format!("{byte:02x}")).collect()
+}
+
+/// Numbers separated by one space.
+pub fn numbers<T: Display>(numbers: &[T]) -> String {
+    let texts: Vec<String> = numbers.iter().map(T::to_string).collect();
+    texts.join(" ")
+}

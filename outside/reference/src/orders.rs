@@ -1,0 +1,144 @@
+//! The two placing orders, the places they give and the first overflow.
+
+use crate::graph::{Graph, Link};
+use std::cmp::Reverse;
+use std::collections::{BinaryHeap, VecDeque};
+
+/// The first link, in placing order and then by rising field place, that does
+/// not fit.
+#[derive(Clone, Copy, Debug, PartialEq, Eq)]
+pub struct Overflow {
+    pub parent: usize,
+    pub field: u64,
+    pub needed: u64,
+}
+
+/// The reached pieces in one order, with the place of each.
+#[derive(Clone, Debug, PartialEq, Eq)]
+pub struct Placing {
+    pub order: Vec<usize>,
+    pub places: Vec<u64>,
+}
+
+/// Next is the piece that has been ready longest.
+pub fn plain(graph: &Graph, root: usize) -> Placing {
+    place(graph, order(graph, root, VecDeque::new()))
+}
+
+/// Next is the ready piece of least distance, equal ones by longest ready.
+pub fn by_distance(graph: &Graph, root: usize) -> Placing {
+    let queue = DistanceQueue {
+        distances: graph.distances(root),
+        heap: BinaryHeap::new(),
+        turn: 0,
+    };
+    place(graph, order(graph, root, queue))
+}
+
+/// The ready pieces, in the order in which they become ready.
+trait Ready {
+    fn add(&mut self, id: usize);
+    fn next(&mut self) -> Option<usize>;
+}
+
+impl Ready for VecDeque<usize> {
+    fn add(&mut self, id: usize) {
+        self.push_back(id);
+    }
+
+    fn next(&mut self) -> Option<usize> {
+        self.pop_front()
+    }
+}
+
+struct DistanceQueue {
+    distances: Vec<Option<u64>>,
+    /// Distance, turn of becoming ready, id.
+    heap: BinaryHeap<Reverse<(u64, usize, usize)>>,
+    turn: usize,
+}
+
+impl Ready for DistanceQueue {
+    fn add(&mut self, id: usize) {
+        let distance = self.distances[id].expect("a ready piece is reached");
+        self.heap.push(Reverse((distance, self.turn, id)));
+        self.turn += 1;
+    }
+
+    fn next(&mut self) -> Option<usize> {
+        self.heap.pop().map(|Reverse((_, _, id))| id)
+    }
+}
+
+/// A piece is ready when the last field of its reached parents is passed, so
+/// those made ready by one parent come in the order of their last field in it.
+fn order(graph: &Graph, root: usize, mut ready: impl Ready) -> Vec<usize> {
+    let mut waiting = fields_into(graph, root);
+    let mut order = Vec::new();
+    ready.add(root);
+    while let Some(id) = ready.next() {
+        order.push(id);
+        for link in &graph.nodes[id].links {
+            waiting[link.child] -= 1;
+            if waiting[link.child] == 0 {
+                ready.add(link.child);
+            }
+        }
+    }
+    order
+}
+
+/// How many fields of reached parents each piece has.
+fn fields_into(graph: &Graph, root: usize) -> Vec<usize> {
+    let reached = graph.reached(root);
+    let mut count = vec![0; root + 1];
+    for id in (0..=root).filter(|&id| reached[id]) {
+        for link in &graph.nodes[id].links {
+            count[link.child] += 1;
+        }
+    }
+    count
+}
+
+fn place(graph: &Graph, order: Vec<usize>) -> Placing {
+    let mut next = 0;
+    let mut places = Vec::with_capacity(order.len());
+    for &id in &order {
+        places.push(next);
+        next += graph.nodes[id].size;
+    }
+    Placing { order, places }
+}
+
+/// Width 2 holds up to 65,535; width 4 always fits.
+fn fits(link: &Link, offset: u64) -> bool {
+    link.width == 4 || offset <= 65_535
+}
+
+impl Placing {
+    /// The place of each piece by id; 0 for one that is not placed.
+    pub fn by_id(&self, pieces: usize) -> Vec<u64> {
+        let mut by_id = vec![0; pieces];
+        for (&id, &place) in self.order.iter().zip(&self.places) {
+            by_id[id] = place;
+        }
+        by_id
+    }
+
+    pub fn overflow(&self, graph: &Graph) -> Option<Overflow> {
+        let place_of = self.by_id(graph.nodes.len());
+        for &parent in &self.order {
+            for link in &graph.nodes[parent].links {
+                let needed = place_of[link.child] - place_of[parent];
+                if !fits(link, needed) {
+                    return Some(Overflow {
+                        parent,
+                        field: link.place,
+                        needed,
+                    });
+                }
+            }
+        }
+        None
+    }
+}

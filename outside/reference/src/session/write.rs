@@ -1,0 +1,55 @@
+//! put and link: what is appended to the innermost open piece.
+
+use super::done;
+use crate::answer::{self, Answer};
+use crate::sound::sound;
+
+/// Appends bytes.
+pub fn put(store: &mut [u8], records: &mut [u32], bytes: &[u8]) -> Answer {
+    let Some(view) = sound(store, records) else {
+        return Answer::bare(answer::NOT_SOUND);
+    };
+    if view.depth() == 0 {
+        return Answer::with_tally_of(answer::NOTHING_OPEN, view.tally());
+    }
+    let between = view.between();
+    if bytes.len() > between.len() {
+        return Answer::with_tally_of(answer::STORE_FULL, view.tally());
+    }
+    let end_word = view.layout.open_end(view.depth());
+    let end = between.start + bytes.len();
+    store[between.start..end].copy_from_slice(bytes);
+    records[end_word] = end as u32;
+    done(store, records)
+}
+
+/// Appends a field of zero bytes and records it with its child.
+pub fn link(store: &[u8], records: &mut [u32], width: u32, id: u32) -> Answer {
+    let Some(view) = sound(store, records) else {
+        return Answer::bare(answer::NOT_SOUND);
+    };
+    let tally = view.tally();
+    let refusal = if view.depth() == 0 {
+        Some(answer::NOTHING_OPEN)
+    } else if width != 2 && width != 4 {
+        Some(answer::BAD_WIDTH)
+    } else if u64::from(id) >= tally.objects {
+        Some(answer::NOT_CLOSED)
+    } else if tally.links == view.layout.links as u64 {
+        Some(answer::LINKS_FULL)
+    } else if tally.bytes + u64::from(width) > store.len() as u64 {
+        Some(answer::STORE_FULL)
+    } else {
+        None
+    };
+    if let Some(number) = refusal {
+        return Answer::with_tally_of(number, tally);
+    }
+    let (layout, depth) = (view.layout, view.depth());
+    let place = view.open_piece(depth - 1).bytes.len() as u32;
+    let record = layout.link(view.open_link_end(depth));
+    records[record..record + 3].copy_from_slice(&[place, width, id]);
+    records[layout.open_end(depth)] += width;
+    records[layout.open_link_end(depth)] += 1;
+    done(store, records)
+}

@@ -1,0 +1,302 @@
+//! Cases for the points where a packer easily goes wrong.
+
+use crate::call::Call;
+use crate::cases::Case;
+use crate::limits;
+
+pub fn trap_cases() -> Vec<Case> {
+    let mut cases = offset_cases();
+    cases.extend(order_cases());
+    cases.extend(closing_cases());
+    cases.extend(start_cases());
+    cases.extend(refusal_cases());
+    cases
+}
+
+fn offset_cases() -> Vec<Case> {
+    let root = |name, bytes, width| {
+        Case::new(name, 2, 1, 70_000)
+            .piece(b"x", &[])
+            .open()
+            .fill(b'r', bytes)
+            .link(width, 0)
+            .close()
+            .pack(1, 70_000)
+    };
+    vec![
+        root("offset 65535 width 2", 65_533, 2),
+        root("offset 65536 width 2", 65_534, 2),
+        root("offset 65536 width 4", 65_532, 4),
+    ]
+}
+
+fn order_cases() -> Vec<Case> {
+    vec![
+        Case::new("ready at the last field", 3, 3, 16)
+            .piece(b"x", &[])
+            .piece(b"y", &[])
+            .piece(&[], &[(2, 0), (2, 1), (2, 0)])
+            .pack(2, 8),
+        Case::new("unreached parent", 3, 2, 16)
+            .piece(b"x", &[])
+            .piece(b"u", &[(2, 0)])
+            .piece(&[], &[(2, 0)])
+            .pack(2, 3),
+        equal_distances("equal distances ids along", false),
+        equal_distances("equal distances ids other way round", true),
+        lighter_link("lighter link second", &[(4, 1), (2, 1)]),
+        lighter_link("lighter link first", &[(2, 1), (4, 1)]),
+        different_ready_times(),
+    ]
+}
+
+/// The root links a, of 5 bytes, and b, of 6; a links x, of 65,531, and b
+/// links y, of 65,530. So x and y are at equal distances.
+fn equal_distances(name: &'static str, y_first: bool) -> Case {
+    let case = Case::new(name, 5, 4, 140_000);
+    let (leaves, x, y) = if y_first {
+        (case.leaf(b'y', 65_530).leaf(b'x', 65_531), 1, 0)
+    } else {
+        (case.leaf(b'x', 65_531).leaf(b'y', 65_530), 0, 1)
+    };
+    leaves
+        .piece(b"aaa", &[(2, x)])
+        .piece(b"bbbb", &[(2, y)])
+        .piece(&[], &[(2, 2), (2, 3)])
+        .pack(4, 140_000)
+}
+
+/// Both links of the root to id 1 weigh differently, and only the lighter one
+/// lets the distance order fit.
+fn lighter_link(name: &'static str, both: &[(u32, u32)]) -> Case {
+    Case::new(name, 5, 5, 70_000)
+        .piece(b"y", &[])
+        .piece(b"xxx", &[])
+        .leaf(b'z', 65_530)
+        .piece(b"mmmmmm", &[(4, 0)])
+        .open()
+        .links(&[(2, 2), (2, 3)])
+        .links(both)
+        .close()
+        .pack(4, 70_000)
+}
+
+/// The plain order makes x ready before y, the distance order y before x.
+fn different_ready_times() -> Case {
+    Case::new("different ready times", 5, 4, 140_000)
+        .leaf(b'x', 65_540)
+        .leaf(b'y', 65_541)
+        .piece(b"aaaa", &[(2, 0)])
+        .piece(b"bbb", &[(2, 1)])
+        .piece(&[], &[(2, 2), (2, 3)])
+        .pack(4, 140_000)
+}
+
+fn closing_cases() -> Vec<Case> {
+    vec![
+        Case::new("equal bytes different links", 12, 16, 40)
+            .piece(b"d", &[])
+            .piece(b"e", &[])
+            .piece(&[], &[(2, 0)])
+            .piece(&[], &[(2, 1)])
+            .piece(&[], &[(2, 0)])
+            .piece(&[], &[(4, 0)])
+            .piece(&[], &[(2, 0), (2, 0)])
+            .piece(&[0, 0], &[(2, 0)])
+            .open()
+            .link(2, 0)
+            .put(&[0, 0])
+            .close()
+            .piece(&[0, 0, 0, 0], &[])
+            .piece(&[], &[(2, 0), (2, 1)])
+            .piece(&[], &[(2, 0), (2, 1)])
+            .tally(),
+        Case::new("overlapping move", 2, 3, 10)
+            .piece(b"x", &[])
+            .open()
+            .link(2, 0)
+            .put(b"a")
+            .link(2, 0)
+            .put(b"bc")
+            .close()
+            .pack(1, 8),
+        Case::new("room of a discarded duplicate", 3, 2, 7)
+            .piece(b"a", &[])
+            .piece(&[], &[(2, 0)])
+            .piece(&[], &[(2, 0)])
+            .piece(b"bc", &[(2, 0)])
+            .tally(),
+        Case::new("room of a dropped piece", 2, 1, 4)
+            .piece(b"a", &[])
+            .open()
+            .put(b"b")
+            .link(2, 0)
+            .drop_piece()
+            .piece(b"c", &[(2, 0)])
+            .tally(),
+        Case::new("nested pieces", 3, 2, 12)
+            .open()
+            .put(b"a")
+            .open()
+            .put(b"bb")
+            .open()
+            .put(b"ccc")
+            .close()
+            .link(2, 0)
+            .close()
+            .link(2, 1)
+            .close()
+            .pack(2, 10),
+    ]
+}
+
+fn start_cases() -> Vec<Case> {
+    let wide = limits::record_need(4, 3);
+    let narrow = limits::record_need(2, 1);
+    vec![
+        Case::new("restart with other limits", 2, 1, 12)
+            .surplus((wide - narrow) as usize + 2)
+            .piece(b"a", &[])
+            .piece(b"b", &[(2, 0)])
+            .open()
+            .put(b"cc")
+            .start(4, 3)
+            .tally()
+            .piece(b"d", &[])
+            .piece(b"e", &[(2, 0), (4, 0)])
+            .start(2, 1)
+            .tally()
+            .start(4, 3)
+            .piece(b"f", &[])
+            .piece(b"g", &[(2, 0), (4, 0)])
+            .pack(1, 8),
+        Case::new("id from before a restart", 3, 1, 8)
+            .piece(b"a", &[])
+            .piece(b"b", &[])
+            .start(3, 1)
+            .open()
+            .link(2, 1)
+            .drop_piece()
+            .pack(1, 8)
+            .piece(b"c", &[])
+            .pack(1, 8)
+            .pack(0, 8),
+        Case::new("start out of range", 1, 0, 4)
+            .piece(b"a", &[])
+            .call(Call::Start {
+                pieces: 0,
+                links: 0,
+            })
+            .call(Call::Start {
+                pieces: 1,
+                links: 1,
+            })
+            .call(Call::Start {
+                pieces: 4_097,
+                links: 0,
+            })
+            .call(Call::Start {
+                pieces: 65_537,
+                links: 0,
+            })
+            .call(Call::Start {
+                pieces: 1,
+                links: 16_385,
+            })
+            .call(Call::Start {
+                pieces: 1,
+                links: u32::MAX,
+            })
+            .call(Call::Start {
+                pieces: u32::MAX,
+                links: u32::MAX,
+            })
+            .tally(),
+    ]
+}
+
+fn refusal_cases() -> Vec<Case> {
+    vec![
+        Case::new("width 258", 1, 1, 8)
+            .piece(b"a", &[])
+            .open()
+            .links(&[(258, 0), (260, 0), (65_538, 0), (0, 0), (1, 0), (3, 0)])
+            .links(&[(8, 0), (u32::MAX, 0), (258, u32::MAX), (2, 0)])
+            .tally(),
+        Case::new("id 4294967295", 1, 1, 8)
+            .piece(b"a", &[])
+            .open()
+            .links(&[(2, u32::MAX), (2, 1), (2, 256), (2, 65_536), (2, 0)])
+            .drop_piece()
+            .pack(u32::MAX, 8)
+            .pack(256, 8)
+            .pack(1, 8)
+            .pack(0, 8),
+        Case::new("put longer than any store", 1, 0, 8)
+            .open()
+            .fill(b'p', 1_048_577)
+            .fill(b'p', 65_536)
+            .fill(b'p', 9)
+            .fill(b'p', 8)
+            .put(b"")
+            .put(b"p")
+            .tally(),
+        Case::new("longest store", 1, 0, 1_048_576)
+            .open()
+            .fill(b'p', 1_048_577)
+            .fill(b'p', 1_048_576)
+            .put(b"p")
+            .close()
+            .pack(0, 1_048_575)
+            .pack(0, 1_048_576),
+        (0..65)
+            .fold(Case::new("65 opens", 1, 0, 4), |case, _| case.open())
+            .drop_piece()
+            .open()
+            .open()
+            .tally(),
+        Case::new("link refusals in order", 1, 1, 3)
+            .link(258, 9)
+            .piece(b"a", &[])
+            .open()
+            .links(&[(2, 0), (258, 9), (2, 9), (2, 0)])
+            .tally(),
+        Case::new("link full store", 1, 2, 3)
+            .piece(b"a", &[])
+            .open()
+            .links(&[(4, 0), (2, 0), (2, 0)])
+            .tally(),
+        Case::new("close refusals in order", 1, 0, 4)
+            .piece(b"a", &[])
+            .close()
+            .open()
+            .close()
+            .put(b"b")
+            .close()
+            .drop_piece()
+            .piece(b"a", &[])
+            .tally(),
+        pack_refusals(),
+    ]
+}
+
+fn pack_refusals() -> Case {
+    let need = limits::work_need(3, 1) as usize;
+    let pack = |id, output, work| Call::Pack { id, output, work };
+    Case::new("pack refusals in order", 3, 1, 70_000)
+        .piece(b"x", &[])
+        .open()
+        .fill(b'r', 65_534)
+        .link(2, 0)
+        .close()
+        .open()
+        .call(pack(9, 0, need - 1))
+        .call(pack(9, 0, need))
+        .drop_piece()
+        .call(pack(9, 0, 0))
+        .call(pack(2, 0, need))
+        .call(pack(1, 65_536, need))
+        .call(pack(1, 65_537, need))
+        .call(pack(1, 65_540, need + 3))
+        .call(pack(0, 1, need + 3))
+}

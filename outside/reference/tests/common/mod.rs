@@ -1,0 +1,107 @@
+//! Helpers shared by the tests.
+#![allow(dead_code)]
+
+use reference::answer::Answer;
+use reference::call::{Call, Stores, Told};
+use reference::limits;
+
+/// A started session with just as many words as needed.
+pub struct Session {
+    pub stores: Stores,
+    pub work: usize,
+}
+
+impl Session {
+    pub fn new(pieces: u32, links: u32, store: usize) -> Session {
+        let records = limits::record_need(pieces.into(), links.into()) as usize;
+        let mut session = Session {
+            stores: Stores::new(store, records),
+            work: limits::work_need(pieces.into(), links.into()) as usize,
+        };
+        let started = session.run(Call::Start { pieces, links });
+        assert_eq!(started, Answer::default());
+        session
+    }
+
+    pub fn run(&mut self, call: Call) -> Answer {
+        self.stores.run(&call).answer
+    }
+
+    pub fn open(&mut self) -> Answer {
+        self.run(Call::Open)
+    }
+
+    pub fn put(&mut self, bytes: &[u8]) -> Answer {
+        self.run(Call::Put(bytes.to_vec()))
+    }
+
+    pub fn link(&mut self, width: u32, id: u32) -> Answer {
+        self.run(Call::Link { width, id })
+    }
+
+    pub fn close(&mut self) -> Answer {
+        self.run(Call::Close)
+    }
+
+    pub fn drop_piece(&mut self) -> Answer {
+        self.run(Call::Drop)
+    }
+
+    pub fn tally(&mut self) -> Answer {
+        self.run(Call::Tally)
+    }
+
+    pub fn pack(&mut self, id: u32, output: usize) -> Told {
+        let work = self.work;
+        self.stores.run(&Call::Pack { id, output, work })
+    }
+
+    /// Opens, puts, links and closes a piece, all accepted, and gives its id.
+    pub fn piece(&mut self, bytes: &[u8], links: &[(u32, u32)]) -> u64 {
+        assert_eq!(self.open().number, 0);
+        assert_eq!(self.put(bytes).number, 0);
+        for &(width, id) in links {
+            assert_eq!(self.link(width, id).number, 0);
+        }
+        let closed = self.close();
+        assert_eq!(closed.number, 0);
+        closed.id
+    }
+}
+
+/// A number and a tally, in the order bytes, links, objects, depth.
+pub fn told(number: u64, tally: [u64; 4]) -> Answer {
+    Answer {
+        number,
+        bytes: tally[0],
+        links: tally[1],
+        objects: tally[2],
+        depth: tally[3],
+        ..Answer::default()
+    }
+}
+
+/// Numbers that look random and are the same in every run.
+pub struct Numbers(u64);
+
+impl Numbers {
+    pub fn new(seed: u64) -> Numbers {
+        Numbers(seed.wrapping_mul(0x9e37_79b9_7f4a_7c15) | 1)
+    }
+
+    pub fn next(&mut self) -> u64 {
+        self.0 ^= self.0 << 13;
+        self.0 ^= self.0 >> 7;
+        self.0 ^= self.0 << 17;
+        self.0.wrapping_mul(0x2545_f491_4f6c_dd1d) >> 16
+    }
+
+    /// Below a bound.
+    pub fn below(&mut self, bound: usize) -> usize {
+        (self.next() % bound as u64) as usize
+    }
+
+    pub fn one_of<T: Copy>(&mut self, choices: &[T]) -> T {
+        choices[self.below(choices.len())]
+    }
+}

@@ -1,0 +1,169 @@
+//! What pack writes and what it leaves alone.
+
+mod common;
+
+use common::Session;
+use reference::answer::Answer;
+use reference::call::{Call, STALE_BYTE, STALE_WORK};
+use reference::cases::paper_cases;
+use reference::limits;
+use reference::traps::trap_cases;
+
+fn two_pieces(bytes: usize) -> Session {
+    let mut session = Session::new(3, 2, 70_000);
+    session.piece(b"x", &[]);
+    session.piece(&vec![1; bytes], &[(2, 0)]);
+    session
+}
+
+#[test]
+fn the_surplus_and_the_rest_of_the_output_stand() {
+    let mut session = two_pieces(1);
+    let before = session.stores.clone();
+    let need = session.work;
+    let told = session.stores.run(&Call::Pack {
+        id: 1,
+        output: 7,
+        work: need + 2,
+    });
+    assert_eq!(told.answer.length, 4);
+    assert_eq!(told.output[..4], [1, 0, 3, b'x']);
+    assert_eq!(told.output[4..], [STALE_BYTE; 3]);
+    assert_eq!(told.work[..need], vec![0; need]);
+    assert_eq!(told.work[need..], [STALE_WORK; 2]);
+    assert_eq!(session.stores, before);
+}
+
+#[test]
+fn ten_and_eleven_clear_the_work_memory_and_write_no_table() {
+    let mut session = two_pieces(65_534);
+    let before = session.stores.clone();
+    for (output, number) in [(65_536, 10), (65_537, 11)] {
+        let need = session.work;
+        let told = session.stores.run(&Call::Pack {
+            id: 1,
+            output,
+            work: need + 2,
+        });
+        assert_eq!(told.answer.number, number);
+        assert!(told.output.iter().all(|&byte| byte == STALE_BYTE));
+        assert_eq!(told.work[..need], vec![0; need]);
+        assert_eq!(told.work[need..], [STALE_WORK; 2]);
+    }
+    assert_eq!(session.stores, before);
+}
+
+#[test]
+fn other_refusals_leave_the_work_memory() {
+    let mut session = two_pieces(1);
+    let need = session.work;
+    let pack = |id, work| Call::Pack {
+        id,
+        output: 9,
+        work,
+    };
+    let untouched = |session: &mut Session, call: Call, number| {
+        let before = session.stores.clone();
+        let told = session.stores.run(&call);
+        assert_eq!(told.answer.number, number);
+        assert_eq!(told.output, [STALE_BYTE; 9]);
+        assert!(told.work.iter().all(|&word| word == STALE_WORK));
+        assert_eq!(session.stores, before);
+    };
+    untouched(&mut session, pack(1, need - 1), 13);
+    untouched(&mut session, pack(2, need), 4);
+    session.open();
+    untouched(&mut session, pack(1, need), 9);
+    session.drop_piece();
+    session.stores.records[0] = 0;
+    untouched(&mut session, pack(1, need), 12);
+    untouched(&mut session, pack(1, need - 1), 12);
+}
+
+#[test]
+fn the_need_goes_by_the_limits_and_not_by_the_counts() {
+    let mut session = Session::new(4_096, 16_384, 8);
+    session.piece(b"x", &[]);
+    assert_eq!(session.work, 9 * 4_096 + 3 * 16_384);
+    assert_eq!(session.pack(0, 1).answer.number, 0);
+    session.work -= 1;
+    assert_eq!(session.pack(0, 1).answer, Answer::bare(13));
+}
+
+#[test]
+fn needs_stay_within_their_bound() {
+    for pieces in [1, 2, 4_095, 4_096] {
+        for links in [0, 1, 16_383, 16_384] {
+            let most = 4_096 + 64 * (pieces + links);
+            assert!(limits::record_need(pieces, links) <= most);
+            assert!(limits::work_need(pieces, links) <= most);
+        }
+    }
+}
+
+#[test]
+fn offsets_at_the_edge_of_a_width_2_field() {
+    let packed = two_pieces(65_533).pack(1, 65_536);
+    assert_eq!(packed.answer.number, 0);
+    assert_eq!(packed.output[65_533..], [0xff, 0xff, b'x']);
+    let mut session = Session::new(2, 1, 70_000);
+    session.piece(b"x", &[]);
+    session.piece(&vec![1; 65_532], &[(4, 0)]);
+    let packed = session.pack(1, 65_537);
+    assert_eq!(packed.output[65_532..], [0, 1, 0, 0, b'x']);
+}
+
+#[test]
+fn all_four_bytes_of_a_width_4_offset() {
+    let mut session = Session::new(2, 1, 1_048_576);
+    session.piece(b"x", &[]);
+    session.piece(&vec![1; 0x0a_0b_0c - 4], &[(4, 0)]);
+    let packed = session.pack(1, 0x0a_0b_0d);
+    let field = &packed.output[0x0a_0b_0c - 4..];
+    assert_eq!(field, [0, 0x0a, 0x0b, 0x0c, b'x']);
+}
+
+fn last_answer(name: &str) -> Answer {
+    let all = [paper_cases(), trap_cases()].concat();
+    let case = all.into_iter().find(|case| case.name == name).unwrap();
+    let mut stores = reference::call::Stores::new(case.store, case.records);
+    let answers = case.calls.iter().map(|call| stores.run(call).answer);
+    answers.last().unwrap()
+}
+
+#[test]
+fn the_distance_order_decides_what_is_told() {
+    let unfit = |name| {
+        let answer = last_answer(name);
+        assert_eq!(answer.number, 11);
+        (answer.parent, answer.field, answer.needed)
+    };
+    assert_eq!(unfit("equal distances ids along"), (3, 4, 65_537));
+    assert_eq!(unfit("equal distances ids other way round"), (3, 4, 65_537));
+    assert_eq!(unfit("different ready times"), (2, 4, 65_547));
+    for name in ["lighter link second", "lighter link first"] {
+        let answer = last_answer(name);
+        assert_eq!((answer.number, answer.length), (0, 65_554));
+    }
+}
+
+#[test]
+fn unreached_pieces_are_not_packed() {
+    let mut session = Session::new(3, 2, 16);
+    session.piece(b"x", &[]);
+    session.piece(b"u", &[(2, 0)]);
+    session.piece(&[], &[(2, 0)]);
+    let packed = session.pack(2, 8);
+    assert_eq!(packed.answer.length, 3);
+    assert_eq!(packed.output[..3], [0, 2, b'x']);
+}
+
+#[test]
+fn a_child_ready_at_its_last_field() {
+    let mut session = Session::new(3, 3, 16);
+    session.piece(b"x", &[]);
+    session.piece(b"y", &[]);
+    session.piece(&[], &[(2, 0), (2, 1), (2, 0)]);
+    let packed = session.pack(2, 8);
+    assert_eq!(packed.output, [0, 7, 0, 6, 0, 7, b'y', b'x']);
+}

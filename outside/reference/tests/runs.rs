@@ -1,0 +1,277 @@
+//! Long runs of calls: the session tells what the history says, stays sound,
+//! and its tables show the history's readings.
+
+mod common;
+
+use common::Numbers;
+use reference::answer::Answer;
+use reference::call::{Call, Stores, STALE_BYTE, STALE_WORK};
+use reference::cases::{paper_cases, Case};
+use reference::history::History;
+use reference::limits;
+use reference::reader;
+use reference::traps::trap_cases;
+
+/// A session and its history, side by side.
+struct Pair {
+    stores: Stores,
+    history: History,
+    /// How often each number was told.
+    told: [usize; 14],
+    /// How many tables with more than their root were packed.
+    linked: usize,
+}
+
+impl Pair {
+    fn begin(store: usize, records: usize, first: &Call) -> Pair {
+        let mut stores = Stores::new(store, records);
+        assert_eq!(stores.run(first).answer, Answer::default());
+        let Call::Start { pieces, links } = *first else {
+            panic!("a run begins with a start");
+        };
+        Pair {
+            stores,
+            history: History::begin(pieces, links, store, records).unwrap(),
+            told: [0; 14],
+            linked: 0,
+        }
+    }
+
+    fn run(&mut self, call: &Call) {
+        let before = self.stores.clone();
+        let told = self.stores.run(call);
+        let number = told.answer.number;
+        self.told[number as usize] += 1;
+        let (store, records) = (before.bytes.len(), before.records.len());
+        match self.history.feed(call, store, records) {
+            Some(expected) => assert_eq!(told.answer, expected, "{call:?}"),
+            None => {
+                let Call::Pack { id, .. } = *call else {
+                    panic!("only a pack is not judged");
+                };
+                assert_eq!(self.stores, before);
+                self.check_pack(id, &told.answer, &told.output, &told.work);
+                let root = self.history.reading(id).map_or(0, |root| root.size());
+                self.linked += usize::from(told.answer.length > root as u64);
+            }
+        }
+        if number != 0 {
+            assert_eq!(self.stores, before, "{call:?}");
+        }
+        assert_eq!(self.stores.run(&Call::Tally).answer, self.history.tally());
+    }
+
+    fn check_pack(&self, id: u32, answer: &Answer, output: &[u8], work: &[u64]) {
+        let tally = self.history.tally();
+        let limit = |word: usize| u64::from(self.stores.records[word]);
+        let pieces = limit(0);
+        let need = limits::work_need(pieces, limit(134 + pieces as usize)) as usize;
+        let cleared = matches!(answer.number, 0 | 10 | 11);
+        if cleared {
+            assert!(work[..need].iter().all(|&word| word == 0));
+            assert!(work[need..].iter().all(|&word| word == STALE_WORK));
+        } else {
+            assert!(work.iter().all(|&word| word == STALE_WORK));
+        }
+        let expected = if work.len() < need {
+            13
+        } else if tally.depth > 0 {
+            9
+        } else if u64::from(id) >= tally.objects {
+            4
+        } else if (output.len() as u64) < self.history.table_length(id).unwrap() {
+            10
+        } else if answer.number == 11 {
+            assert!(answer.needed > 65_535);
+            11
+        } else {
+            0
+        };
+        assert_eq!(answer.number, expected);
+        let mut written = 0;
+        if expected == 0 {
+            assert_eq!(answer.length, self.history.table_length(id).unwrap());
+            written = answer.length as usize;
+            let reading = self.history.reading(id).unwrap();
+            assert_eq!(reader::check(&output[..written], reading), Ok(()));
+        }
+        assert!(output[written..].iter().all(|&byte| byte == STALE_BYTE));
+    }
+}
+
+fn run_case(case: &Case) {
+    let mut pair = Pair::begin(case.store, case.records, &case.calls[0]);
+    for call in &case.calls[1..] {
+        pair.run(call);
+    }
+}
+
+#[test]
+fn every_case_agrees_with_its_history() {
+    for case in paper_cases().iter().chain(&trap_cases()) {
+        run_case(case);
+    }
+}
+
+/// Mostly an id of a closed piece.
+fn any_id(numbers: &mut Numbers, closed: usize) -> u32 {
+    match numbers.below(20) {
+        0 => numbers.next() as u32,
+        1 => closed as u32,
+        _ => numbers.below(closed.max(1)) as u32,
+    }
+}
+
+fn any_call(numbers: &mut Numbers, tally: Answer, most: usize) -> Call {
+    let closed = tally.objects as usize;
+    let open = Call::Open;
+    let put = |numbers: &mut Numbers| {
+        let length = numbers.below(most);
+        Call::Put((0..length).map(|_| numbers.below(2) as u8).collect())
+    };
+    let link = |numbers: &mut Numbers| Call::Link {
+        width: numbers.one_of(&[2, 2, 2, 2, 4, 4, 3, 258]),
+        id: any_id(numbers, closed),
+    };
+    let pack = |numbers: &mut Numbers| Call::Pack {
+        id: any_id(numbers, closed),
+        output: numbers.below(6 * most),
+        work: 100 + numbers.below(100),
+    };
+    let start = |numbers: &mut Numbers| Call::Start {
+        pieces: numbers.below(13) as u32,
+        links: numbers.below(17) as u32,
+    };
+    match (numbers.below(100), tally.depth) {
+        (0, _) => start(numbers),
+        (1..=19, 3..) => Call::Drop,
+        (1..=9, _) => Call::Tally,
+        (10..=19, _) => open,
+        (20..=24, _) => put(numbers),
+        (25..=29, _) => link(numbers),
+        (30..=34, _) => Call::Drop,
+        (35..=39, _) => pack(numbers),
+        (40..=69, 0) => open,
+        (_, 0) => pack(numbers),
+        (40..=54, _) => put(numbers),
+        (55..=74, _) => link(numbers),
+        (75..=79, _) => Call::Drop,
+        (_, _) => Call::Close,
+    }
+}
+
+#[test]
+fn many_small_runs() {
+    let mut told = [0; 14];
+    let mut linked = 0;
+    for seed in 0..4_000 {
+        let mut numbers = Numbers::new(seed + 10);
+        let (pieces, links) = (1 + numbers.below(12) as u32, numbers.below(17) as u32);
+        let store = 1 + numbers.below(90);
+        let need = limits::record_need(pieces.into(), links.into()) as usize;
+        let records = need + numbers.below(20);
+        let mut pair = Pair::begin(store, records, &Call::Start { pieces, links });
+        for _ in 0..150 {
+            let tally = pair.history.tally();
+            pair.run(&any_call(&mut numbers, tally, 8));
+        }
+        for (sum, count) in told.iter_mut().zip(pair.told) {
+            *sum += count;
+        }
+        linked += pair.linked;
+    }
+    assert!(linked > 1_000, "{linked} tables with links");
+    for number in [0, 1, 3, 4, 5, 6, 7, 8, 9, 10, 13] {
+        assert!(told[number] > 100, "{number} told {} times", told[number]);
+    }
+    assert_eq!(told[12], 0);
+}
+
+#[test]
+fn runs_with_large_pieces() {
+    let mut told = [0; 14];
+    for seed in 0..60 {
+        let mut numbers = Numbers::new(seed + 10_000);
+        let (pieces, links) = (10, 24);
+        let records = limits::record_need(10, 24) as usize;
+        let mut pair = Pair::begin(400_000, records, &Call::Start { pieces, links });
+        for id in 0..9 {
+            pair.run(&Call::Open);
+            let length = numbers.one_of(&[1, 2, 20_000, 40_000, 65_525, 65_535]);
+            let bytes = vec![id as u8; length];
+            let put_first = numbers.below(2) == 0;
+            if put_first {
+                pair.run(&Call::Put(bytes.clone()));
+            }
+            for _ in 0..numbers.below(4) {
+                let width = numbers.one_of(&[2, 2, 2, 4]);
+                let child = numbers.below(id.max(1)) as u32;
+                pair.run(&Call::Link { width, id: child });
+            }
+            if !put_first {
+                pair.run(&Call::Put(bytes));
+            }
+            pair.run(&Call::Close);
+        }
+        for id in 0..9 {
+            pair.run(&Call::Pack {
+                id,
+                output: 400_000,
+                work: 200,
+            });
+        }
+        for (sum, count) in told.iter_mut().zip(pair.told) {
+            *sum += count;
+        }
+    }
+    assert!(told[11] > 20, "{told:?}");
+}
+
+#[test]
+fn a_long_chain() {
+    let (pieces, links, count) = (400, 400, 400);
+    let records = limits::record_need(400, 400) as usize;
+    let mut pair = Pair::begin(1_000, records, &Call::Start { pieces, links });
+    pair.run(&Call::Open);
+    pair.run(&Call::Put(b"x".to_vec()));
+    pair.run(&Call::Close);
+    for id in 0..count - 1 {
+        pair.run(&Call::Open);
+        pair.run(&Call::Link { width: 2, id });
+        pair.run(&Call::Close);
+    }
+    pair.run(&Call::Pack {
+        id: count - 1,
+        output: 1_000,
+        work: 9 * 400 + 3 * 400,
+    });
+    assert_eq!(pair.history.table_length(count - 1), Some(799));
+    assert_eq!(pair.told[0], 3 * 400 + 1);
+}
+
+#[test]
+#[ignore = "takes a while"]
+fn all_pieces_and_links_of_the_limits() {
+    let (pieces, links) = (4_096, 16_384);
+    let records = limits::record_need(4_096, 16_384) as usize;
+    let mut pair = Pair::begin(90_000, records, &Call::Start { pieces, links });
+    let mut numbers = Numbers::new(20_000);
+    for id in 0..pieces {
+        pair.run(&Call::Open);
+        pair.run(&Call::Put(id.to_be_bytes().to_vec()));
+        for _ in 0..4 {
+            let far = numbers.below(60).min(id as usize) as u32;
+            let width = numbers.one_of(&[2, 4, 4, 4]);
+            let child = id.saturating_sub(1 + far);
+            pair.run(&Call::Link { width, id: child });
+        }
+        pair.run(&Call::Close);
+    }
+    pair.run(&Call::Pack {
+        id: pieces - 1,
+        output: 90_000,
+        work: 9 * 4_096 + 3 * 16_384,
+    });
+    assert_eq!(pair.history.tally().objects, 4_096);
+    assert_eq!(pair.linked, 1);
+}

@@ -1,0 +1,339 @@
+//! Each clause of soundness, and none beside them.
+
+mod common;
+
+use common::{told, Numbers, Session};
+use reference::answer::Answer;
+use reference::call::{Call, Stores};
+
+/// Piece limit 4, link limit 4, 24 bytes. Closed: `x`, and `b` with a link to
+/// it. Open: `q` with a link to id 1, and `r`.
+fn sound_session() -> Session {
+    let mut session = Session::new(4, 4, 24);
+    session.piece(b"x", &[]);
+    session.piece(b"b", &[(2, 0)]);
+    session.open();
+    session.put(b"q");
+    session.link(2, 1);
+    session.open();
+    session.put(b"r");
+    assert_eq!(session.tally(), told(0, [8, 2, 2, 2]));
+    session
+}
+
+fn calls() -> [Call; 7] {
+    [
+        Call::Open,
+        Call::Put(b"z".to_vec()),
+        Call::Link { width: 2, id: 0 },
+        Call::Close,
+        Call::Drop,
+        Call::Tally,
+        Call::Pack {
+            id: 0,
+            output: 24,
+            work: 48,
+        },
+    ]
+}
+
+/// All but start tell 12 and change nothing.
+fn assert_unsound(stores: &Stores, why: &str) {
+    for call in calls() {
+        let mut tried = stores.clone();
+        let told = tried.run(&call);
+        assert_eq!(told.answer, Answer::bare(12), "{why}: {call:?}");
+        assert_eq!(&tried, stores);
+    }
+}
+
+#[test]
+fn each_word_that_counts_is_looked_at() {
+    let unsound = [
+        (0, 0, "piece limit 0"),
+        (0, 5, "piece limit moved"),
+        (0, 4_097, "piece limit above its range"),
+        (0, u32::MAX, "piece limit far above its range"),
+        (1, 5, "more closed than the limit"),
+        (1, 3, "more closed than recorded"),
+        (1, 1, "fewer closed than recorded"),
+        (1, u32::MAX, "closed count far too high"),
+        (2, 65, "65 open"),
+        (2, 3, "more open than recorded"),
+        (2, 1, "fewer open than recorded"),
+        (2, u32::MAX, "depth far too high"),
+        (3, 1, "first open end not 0"),
+        (4, 5, "open ends falling"),
+        (4, 2, "a field past its piece"),
+        (5, 3, "a byte left between"),
+        (5, 21, "open bytes into closed ones"),
+        (5, u32::MAX, "open end far too high"),
+        (68, 1, "first open link end not 0"),
+        (69, 2, "an open link that is not there"),
+        (69, 0, "open link in the wrong piece"),
+        (70, 5, "more open links than the limit"),
+        (133, 23, "store longer than at the start"),
+        (133, 25, "store shorter than at the start"),
+        (134, 24, "closed size 0"),
+        (134, 25, "closed begins rising"),
+        (135, 23, "second closed size 0"),
+        (135, u32::MAX, "closed begin far too high"),
+        (138, 5, "link limit above the words"),
+        (138, 16_385, "link limit above its range"),
+        (138, 3, "link limit below the closed links"),
+        (139, 5, "closed link begins rising"),
+        (140, 2, "a closed link that is not there"),
+        (140, 0, "closed links into open ones"),
+        (143, 0, "open field on a byte that is not zero"),
+        (143, 2, "open field past its piece"),
+        (143, u32::MAX - 1, "field end past 32 bits"),
+        (144, 0, "width 0"),
+        (144, 1, "width 1"),
+        (144, 3, "width 3"),
+        (144, 258, "width 258"),
+        (145, 2, "child of an open piece not closed"),
+        (145, u32::MAX, "child far too high"),
+        (152, 0, "closed field on a byte that is not zero"),
+        (152, 2, "closed field past its piece"),
+        (153, 4, "closed field too wide"),
+        (154, 1, "child not below its parent"),
+        (154, 2, "child of a closed piece not closed"),
+    ];
+    for (word, value, why) in unsound {
+        let mut stores = sound_session().stores;
+        assert_ne!(stores.records[word], value);
+        stores.records[word] = value;
+        assert_unsound(&stores, why);
+    }
+}
+
+#[test]
+fn sixty_five_empty_open_pieces() {
+    let mut session = Session::new(4, 4, 24);
+    for _ in 0..64 {
+        session.open();
+    }
+    assert_eq!(session.tally(), told(0, [0, 0, 0, 64]));
+    session.stores.records[2] = 65;
+    assert_unsound(&session.stores, "65 open");
+}
+
+#[test]
+fn bytes_between_and_in_fields_are_zero() {
+    for at in 0..24 {
+        let mut session = sound_session();
+        session.stores.bytes[at] ^= 0x80;
+        // Bytes 0 and 3 are open, 20 and 23 closed, all outside fields.
+        match at {
+            0 | 3 | 20 | 23 => assert_eq!(session.tally(), told(0, [8, 2, 2, 2])),
+            _ => assert_unsound(&session.stores, "a byte that must be zero"),
+        }
+    }
+}
+
+#[test]
+fn lengths_are_looked_at() {
+    let sound = sound_session().stores;
+    for change in [-1, 1] {
+        let mut stores = sound.clone();
+        stores.bytes = vec![0; (24 + change) as usize];
+        assert_unsound(&stores, "another store length");
+    }
+    let mut stores = sound.clone();
+    stores.records.pop();
+    assert_unsound(&stores, "record store short of its need");
+    for words in 0..sound.records.len() {
+        let mut stores = sound.clone();
+        stores.records.truncate(words);
+        assert_unsound(&stores, "record store far too short");
+        stores.bytes.clear();
+        assert_unsound(&stores, "empty store");
+    }
+}
+
+#[test]
+fn a_store_outside_its_range_is_not_as_at_any_start() {
+    for length in [0, 1_048_577] {
+        let mut stores = Session::new(4, 4, 1).stores;
+        stores.bytes = vec![0; length];
+        stores.records[133] = length as u32;
+        assert_unsound(&stores, "store outside its range");
+    }
+}
+
+#[test]
+fn fields_rise_and_lie_apart() {
+    let mut session = Session::new(2, 2, 9);
+    session.piece(b"x", &[]);
+    session.piece(b"bb", &[(4, 0), (2, 0)]);
+    let records = 135 + 2 * 2;
+    let sound = session.stores.clone();
+    assert_eq!(sound.records[records..], [2, 4, 0, 6, 2, 0]);
+    for place in [2, 4, 5] {
+        let mut stores = sound.clone();
+        stores.records[records + 3] = place;
+        assert_unsound(&stores, "fields that overlap");
+    }
+    let mut stores = sound;
+    stores.records[records..].copy_from_slice(&[6, 2, 0, 2, 4, 0]);
+    assert_unsound(&stores, "fields that fall");
+}
+
+#[test]
+fn unused_and_surplus_words_may_hold_anything() {
+    let mut session = sound_session();
+    session.stores.records.extend([7; 5]);
+    let unused = (6..68)
+        .chain(71..133)
+        .chain(136..138)
+        .chain(141..143)
+        .chain(146..152)
+        .chain(155..160);
+    for word in unused {
+        session.stores.records[word] = u32::MAX;
+        assert_eq!(session.tally(), told(0, [8, 2, 2, 2]));
+    }
+    // Every call still does its work.
+    assert_eq!(session.open(), told(0, [8, 2, 2, 3]));
+    assert_eq!(session.put(b"s"), told(0, [9, 2, 2, 3]));
+    assert_eq!(session.link(2, 1), told(0, [11, 3, 2, 3]));
+    assert_eq!(session.close().id, 2);
+    assert_eq!(session.drop_piece(), told(0, [10, 3, 3, 1]));
+    assert_eq!(session.close().id, 3);
+    assert_eq!(session.pack(3, 24).answer.length, 7);
+    assert_eq!(session.stores.records[155..], [u32::MAX; 5]);
+}
+
+#[test]
+fn equal_closed_pieces_are_sound() {
+    let mut session = Session::new(3, 1, 6);
+    session.piece(b"a", &[]);
+    session.piece(b"b", &[]);
+    session.stores.bytes[4] = b'a';
+    assert_eq!(session.tally(), told(0, [2, 0, 2, 0]));
+    session.piece(&[], &[(2, 1)]);
+    assert_eq!(session.pack(2, 3).output, [0, 2, b'a']);
+}
+
+/// Soundness once more, with signed sums and nothing shared with the library.
+fn slow_sound(store: &[u8], words: &[u32]) -> bool {
+    let word = |at: i64| -> Option<i64> { Some((*words.get(usize::try_from(at).ok()?)?).into()) };
+    let judge = || -> Option<bool> {
+        let (p, c, d) = (word(0)?, word(1)?, word(2)?);
+        let l = word(134 + p)?;
+        let n = store.len() as i64;
+        let ranges = (1..=4_096).contains(&p)
+            && (0..=16_384).contains(&l)
+            && (1..=1_048_576).contains(&n)
+            && words.len() as i64 >= 135 + 2 * p + 3 * l
+            && word(133)? == n
+            && c <= p
+            && d <= 64
+            && word(3)? == 0
+            && word(68)? == 0;
+        if !ranges {
+            return Some(false);
+        }
+        // Every piece: begin, size, first link, links, bound of its children.
+        let mut pieces = Vec::new();
+        for k in 0..d {
+            let (begin, link) = (word(3 + k)?, word(68 + k)?);
+            let (size, links) = (word(4 + k)? - begin, word(69 + k)? - link);
+            pieces.push((begin, size, link, links, c, 0));
+        }
+        for i in 0..c {
+            let (begin, link) = (word(134 + i)?, word(135 + p + i)?);
+            let (size, links) = (word(133 + i)? - begin, word(134 + p + i)? - link);
+            pieces.push((begin, size, link, links, i, 1));
+        }
+        let between = word(3 + d)?..word(133 + c)?;
+        let free_links = word(134 + p + c)? - word(68 + d)?;
+        if between.start > between.end || free_links < 0 {
+            return Some(false);
+        }
+        let zero = |range: std::ops::Range<i64>| {
+            let bytes = store.get(range.start as usize..range.end as usize);
+            bytes.is_some_and(|bytes| bytes.iter().all(|&byte| byte == 0))
+        };
+        if !zero(between) {
+            return Some(false);
+        }
+        for (begin, size, link, links, bound, least) in pieces {
+            if size < least || links < 0 {
+                return Some(false);
+            }
+            let mut end = 0;
+            for record in link..link + links {
+                let at = 135 + 2 * p + 3 * record;
+                let (place, width, child) = (word(at)?, word(at + 1)?, word(at + 2)?);
+                let right = place >= end && [2, 4].contains(&width) && child < bound;
+                end = place + width;
+                if !right || end > size || !zero(begin + place..begin + end) {
+                    return Some(false);
+                }
+            }
+        }
+        Some(true)
+    };
+    judge().unwrap_or(false)
+}
+
+#[test]
+fn tampered_memory_is_judged_alike_and_never_indexed_out_of_range() {
+    let mut numbers = Numbers::new(3);
+    let sound = sound_session().stores;
+    let mut counts = [0; 2];
+    for _ in 0..60_000 {
+        let mut stores = sound.clone();
+        stores.records.extend([0; 6]);
+        for _ in 0..1 + numbers.below(3) {
+            let value = match numbers.below(4) {
+                0 => numbers.next() as u32,
+                1 => u32::MAX - numbers.below(4) as u32,
+                _ => numbers.below(26) as u32,
+            };
+            // Mostly words that count, whatever the record store holds.
+            let word = match numbers.below(3) {
+                0 => numbers.one_of(&[0, 1, 2, 3, 4, 5, 6, 68, 69, 70, 71]),
+                1 => 133 + numbers.below(26),
+                _ => numbers.below(160),
+            };
+            stores.records[word] = value;
+        }
+        if numbers.below(4) == 0 {
+            stores.bytes[numbers.below(24)] = numbers.below(2) as u8;
+        }
+        if numbers.below(8) == 0 {
+            stores.records.truncate(numbers.below(162));
+        }
+        let expected = slow_sound(&stores.bytes, &stores.records);
+        counts[usize::from(expected)] += 1;
+        if expected {
+            for call in calls() {
+                let mut tried = stores.clone();
+                assert_ne!(tried.run(&call).answer.number, 12);
+                assert!(slow_sound(&tried.bytes, &tried.records));
+            }
+        } else {
+            assert_unsound(&stores, "tampered");
+        }
+    }
+    assert!(counts[0] > 5_000 && counts[1] > 5_000, "{counts:?}");
+}
+
+#[test]
+fn memory_full_of_anything() {
+    let mut numbers = Numbers::new(4);
+    for _ in 0..20_000 {
+        let mut stores = Stores::new(numbers.below(12), numbers.below(170));
+        let most = numbers.one_of(&[2, 5, 70, 1 << 32]);
+        for word in &mut stores.records {
+            *word = numbers.below(most) as u32;
+        }
+        let sound = slow_sound(&stores.bytes, &stores.records);
+        for call in calls() {
+            let told = stores.clone().run(&call);
+            assert_eq!(told.answer.number != 12, sound);
+        }
+    }
+}
