@@ -1,9 +1,9 @@
-// Offset fields: written and read the highest byte first, one function for every width.
+// Offset fields: written and read the highest byte first, and how much they hold; one function for every width.
 ghost use mathlib.Core.Path.{_≡_};
 ghost use Prim.Native.Nat.{_+_, _≤_};
 ghost use lib.ListN.{length};
 ghost use Rattle.lists.specs.Lists.{part, over};
-ghost use Rattle.field.specs.BigEndian.{bigEndian, readBig};
+ghost use Rattle.field.specs.BigEndian.{capacity, bigEndian, readBig};
 
 // Writes n into the field of `width` bytes at `at`. Of a number that the width cannot hold, the low bytes are written.
 pub fn write(out: &mut [u8], at: usize, width: usize, n: u64)
@@ -28,6 +28,20 @@ pub fn read(s: &[u8], at: usize, width: usize) -> u64
     let mut i = 0;
     while i < width {
         n = n * 256 + wide(s[at + i]);
+        i += 1;
+    }
+    n
+}
+
+// How many numbers a field of `width` bytes holds.
+pub fn capacity(width: usize) -> u64
+    requires { ⌜ width ≤ 7 ⌝ }
+    ensures { λ r. ⌜ r ≡ capacity width ⌝ }
+{
+    let mut n: u64 = 1;
+    let mut i = 0;
+    while i < width {
+        n = n * 256;
         i += 1;
     }
     n

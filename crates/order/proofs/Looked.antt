@@ -1,0 +1,74 @@
+-- The first link found not to fit is the model's.
+use mathlib.Core.Path.{_≡_, refl}
+use Prim.Native.Nat.{ℕ, _<_}
+use mathlib.Core.List.{List, [], _∷_, _++_}
+use mathlib.Core.Bool.{Bool, true, false}
+use native.Mathlib.Omega.{arith}
+use lib.ListN.{length, getD, replicate, length-replicate}
+use Rattle.lists.specs.Lists.{pick}
+use Rattle.field.specs.BigEndian.{fits}
+use Rattle.answer.specs.declared.Overflow.{Overflow}
+use Rattle.model.specs.Bag.{count}
+use Rattle.model.specs.Object.{Link}
+use Rattle.model.specs.Graph.{Graph, kidsOf, reached, Acyclic, Closed, Once, Rooted}
+use Rattle.model.specs.Order.{orderBy}
+use Rattle.model.specs.Distance.{kahnOrder, distanceOrder, distance}
+use Rattle.model.specs.Table.{placeOf, offset, unfitLinks, unfitFrom, unfit}
+use Rattle.model.proofs.Bags.{one-same}
+use Rattle.model.proofs.Reach.{reached-rooted}
+use Rattle.model.proofs.Orders.{orderBy-once}
+use Rattle.order.specs.Fit.{placesFrom, orElse, offsetBy, lookLinks, look, lookAt, lookOf}
+use Rattle.order.specs.declared.fit.Look.the-variants.{Over}
+use Rattle.order.proofs.Reached.{Light, reached-inside}
+use Rattle.order.proofs.Counted.{order-kahn, order-distance}
+use Rattle.order.proofs.Placed.{places-placed}
+
+look-join : (a b : List Overflow) → lookOf (a ++ b) ≡ orElse (lookOf a) (lookOf b)
+look-join [] b = refl
+look-join (u ∷ a) b = refl
+
+-- places that agree on the objects of an order
+module _ (ps : List ℕ) (place : ℕ → ℕ) (o : List ℕ) (agree : (i : ℕ) → 0 < count i o → getD ps i 0 ≡ place i) where
+  look-links : (x : ℕ) → 0 < count x o → (ls : List Link) → ((c : ℕ) → 0 < count c (kidsOf ls) → 0 < count c o) → lookLinks ps x ls ≡ lookOf (unfitLinks place x ls)
+  unfolding lookLinks unfitLinks kidsOf count
+  look-links x h [] k = refl
+  look-links x h (l ∷ ls) k = rw needed (go (fits (l .width) (offset place x l)) (look-links x h ls (λ c m. k c (omega arith))))
+    where
+      needed : offsetBy ps x l ≡ offset place x l
+      needed = unfold offset in rw (agree x h, agree (l .child) (k (l .child) (omega (arith, one-same (l .child)))))
+
+      over : Overflow
+      over = record { parent = record { 0 = x }; field = l .at; needed = offset place x l }
+
+      go : (b : Bool) → lookLinks ps x ls ≡ lookOf (unfitLinks place x ls) → pick b (lookLinks ps x ls) (Over over) ≡ lookOf (pick b (unfitLinks place x ls) (over ∷ unfitLinks place x ls))
+      go true e = e
+      go false e = refl
+
+  look-from : (g : Graph) → Closed g o → (m : List ℕ) → ((x : ℕ) → 0 < count x m → 0 < count x o) → look g ps m ≡ lookOf (unfitFrom g place m)
+  unfolding look unfitFrom Closed count
+  look-from g z [] h = refl
+  look-from g z (x ∷ m) h =
+      let k = h x (omega (arith, one-same x)) in
+      rw (look-links x k (g .links x) (λ c b. z x c k b), look-from g z m (λ c b. h c (omega arith)), look-join)
+
+pub look-unfit : (g : Graph) (o ps : List ℕ) → Once o → ((c : ℕ) → 0 < count c o → c < length ps) → Closed g o → look g (placesFrom g o 0 ps) o ≡ lookOf (unfit g o)
+look-unfit g o ps a b z = look-from (placesFrom g o 0 ps) (placeOf g o) o (places-placed g o ps a b) g z o (λ x h. h)
+
+module _ (g : Graph) (y : Acyclic g) (root p : ℕ) (h : root < p) where
+  look-order : (key : ℕ → ℕ) → look g (placesFrom g (orderBy key g root) 0 (replicate p 0)) (orderBy key g root) ≡ lookOf (unfit g (orderBy key g root))
+  unfolding Once Closed
+  look-order key =
+      look-unfit g (orderBy key g root) (replicate p 0) (λ c. rw (bag c) (r .once c)) (λ c k. rw length-replicate (reached-inside g y root p h c (rw (bag c) at k)))
+      (λ q c k m. rw (bag c) (r .closed q c (rw (bag q) at k) m))
+    where
+      r : Rooted g (reached g root) root
+      r = reached-rooted g root y
+
+      bag : (c : ℕ) → count c (orderBy key g root) ≡ count c (reached g root)
+      bag c = orderBy-once key g y root c
+
+  pub look-kahn : lookAt g p root false ≡ lookOf (unfit g (kahnOrder g root))
+  look-kahn = rw (order-kahn g y root p h) (unfold kahnOrder in look-order (λ i. 0))
+
+  pub look-distance : Light g → root < 4096 → lookAt g p root true ≡ lookOf (unfit g (distanceOrder g root))
+  look-distance light few = rw (order-distance g y root p h light few) (unfold distanceOrder in look-order (distance g root))

@@ -1,0 +1,5 @@
+pub mod Graph
+pub mod Pass
+pub mod Run
+pub mod Fit
+pub mod Need

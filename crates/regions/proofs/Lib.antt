@@ -1,0 +1,4 @@
+pub mod Laws
+pub mod Bounds
+pub mod Frame
+pub mod Turns

@@ -1,0 +1,16 @@
+// Parts of one lent slice at fixed offsets.
+ghost use Prim.Native.Nat.{_+_, _≤_};
+ghost use lib.ListN.{length};
+ghost use Rattle.regions.specs.Region.{Filling};
+
+// Stores v into the n words from a on.
+pub fn fill(work: &mut [u64], a: usize, n: usize, v: u64)
+    requires { ⌜ a + n ≤ length (now work) ⌝ }
+    ensures { λ _. ⌜ Filling a n v n (now (work .entry)) (now (work .exit)) ⌝ }
+{
+    let mut i = 0;
+    while i < n {
+        work[a + i] = v;
+        i += 1;
+    }
+}
