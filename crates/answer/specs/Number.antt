@@ -1,7 +1,7 @@
 -- Paper 01, "What each number means": the number of each refusal, and the values that it comes with.
 use Prim.Native.Nat.{ℕ}
 use Rattle.answer.specs.declared.Overflow.{Overflow}
-use Rattle.answer.specs.declared.Tally.{Tally}
+use Rattle.answer.specs.declared.tally.Tally.{Tally}
 use Rattle.answer.specs.declared.Refusal.{Refusal}
 use Rattle.answer.specs.declared.Refusal.the-variants as Refusal
 

@@ -1,15 +1,10 @@
 // What the calls answer with: ids, counts, refusals.
+mod tally;
+
+pub use tally::Tally;
 
 // A closed object, numbered from 0 in the order of closing (paper 01: a piece id).
 pub struct ObjectId(pub u32);
-
-// What a session holds.
-pub struct Tally {
-    pub bytes: usize,
-    pub links: usize,
-    pub objects: usize,
-    pub depth: usize,
-}
 
 // A link whose offset does not fit its field: the object that has the field, the field's place in it, and the offset needed.
 pub struct Overflow {
@@ -32,4 +27,16 @@ pub enum Refusal {
     Overflow(Overflow),
     Unsound,
     OutOfRange,
+}
+
+// Of every call but close and pack.
+pub enum Answer {
+    Done(Tally),
+    Refused(Refusal, Tally),
+}
+
+// Of close: the closed object's id.
+pub enum Closing {
+    Done(ObjectId, Tally),
+    Refused(Refusal, Tally),
 }

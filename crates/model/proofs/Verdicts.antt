@@ -8,7 +8,7 @@ use lib.ListN.{getD}
 use lib.Dec.{leb}
 use Rattle.lists.specs.Lists.{pick}
 use Rattle.answer.specs.Number.{number, beside, noTally}
-use Rattle.answer.specs.declared.Tally.{Tally}
+use Rattle.answer.specs.declared.tally.Tally.{Tally}
 use Rattle.answer.specs.declared.Refusal.{Refusal}
 use Rattle.answer.specs.declared.Refusal.the-variants as Refusal
 use Rattle.model.specs.Judge.{accepted, refused, Test, when, verdict}

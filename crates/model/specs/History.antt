@@ -7,7 +7,7 @@ use lib.ListN.{length, replicate}
 use lib.Dec.{leb, ltb}
 use Rattle.lists.specs.Lists.{pick, total, firstThat}
 use Rattle.answer.specs.Number.{noTally}
-use Rattle.answer.specs.declared.Tally.{Tally}
+use Rattle.answer.specs.declared.tally.Tally.{Tally}
 use Rattle.model.specs.Reading.{Reading, bytes, field, readingSize, fieldCount, readingAt, sameReading, Shows, below, different}
 use Rattle.model.specs.Judge.{Limits, Verdict, accepted, refused, judgeStart, judgeOpen, judgePut, judgeLink, judgeClose, judgeDrop, judgeTally}
 use Rattle.model.specs.Told.{Told, doneClose, refusal}

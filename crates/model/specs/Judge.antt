@@ -4,7 +4,7 @@ use mathlib.Core.List.{List, [], _∷_}
 use mathlib.Core.Bool.{Bool, true, not, _&&_}
 use lib.Dec.{eqb, leb, ltb}
 use Rattle.lists.specs.Lists.{pick, holds}
-use Rattle.answer.specs.declared.Tally.{Tally}
+use Rattle.answer.specs.declared.tally.Tally.{Tally}
 use Rattle.answer.specs.declared.Overflow.{Overflow}
 use Rattle.answer.specs.declared.Refusal.{Refusal}
 use Rattle.answer.specs.declared.Refusal.the-variants as Refusal

@@ -5,7 +5,7 @@ use mathlib.Core.Bool.{true}
 use lib.ListN.{length}
 use lib.Dec.{ltb}
 use Rattle.lists.specs.Lists.{pick, total, firstThat}
-use Rattle.answer.specs.declared.Tally.{Tally}
+use Rattle.answer.specs.declared.tally.Tally.{Tally}
 use Rattle.model.specs.Object.{Object, noObject, objectAt, sizeOf, linkCount, withBytes, withLink, sameObject}
 use Rattle.model.specs.Graph.{graphOf}
 use Rattle.model.specs.Table.{Outcome, placed, overflow, arranged, tableLength, tableOf}

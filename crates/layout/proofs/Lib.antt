@@ -1,0 +1,6 @@
+pub mod Chains
+pub mod Entries
+pub mod Facts
+pub mod FieldTests
+pub mod Links
+pub mod Objects

@@ -1,0 +1,21 @@
+-- When an object's fields are right.
+use Prim.Native.Nat.{ℕ, _+_}
+use mathlib.Core.List.{List, [], _∷_}
+use mathlib.Core.Bool.{Bool, true, _&&_}
+use lib.ListN.{length}
+use lib.Dec.{leb, ltb}
+use Rattle.lists.specs.Lists.{part, holds, zeros}
+use Rattle.model.specs.Object.{Link, Object, widthOk}
+
+-- a field at or past `from`, of width 2 or 4, inside the bytes, to a child below `kids`, its bytes zero
+unfoldable pub fieldTests : ℕ → ℕ → List ℕ → Link → List Bool
+fieldTests kids from bs l =
+    leb from (l .at) ∷ widthOk (l .width) ∷ leb (l .at + l .width) (length bs) ∷ ltb (l .child) kids ∷ zeros (part (l .at) (l .at + l .width) bs) ∷ []
+
+-- fields rising and apart
+unfoldable pub fieldsOk : ℕ → ℕ → List ℕ → List Link → Bool
+fieldsOk kids from bs [] = true
+fieldsOk kids from bs (l ∷ ls) = holds (fieldTests kids from bs l) && fieldsOk kids (l .at + l .width) bs ls
+
+abbrev pub objectOk : ℕ → Object → Bool
+objectOk kids o = fieldsOk kids 0 (o .bytes) (o .links)

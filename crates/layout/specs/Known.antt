@@ -1,0 +1,51 @@
+-- What sound stores are known to have, by name: numbers that the code of the calls leans on.
+use mathlib.Core.Path.{_≡_}
+use mathlib.Core.Bool.{true}
+use Prim.Native.Nat.{ℕ, _≤_}
+use mathlib.Core.List.{List}
+use lib.ListN.{length, getD}
+use Rattle.lists.specs.Lists.{part, zeros}
+use Rattle.layout.specs.Tables.{rises, falls, forAll}
+use Rattle.layout.specs.Words.{objectLimit, closedCount, openDepth, endsAt, linkEndsAt, need, storeLength, linkLimit, ends, linkEnds, begins, linkBegins, top, linkTop, low, linkLow}
+use Rattle.layout.specs.Fields.{objectOk}
+use Rattle.layout.specs.Decode.{openAt, closedAt}
+use Rattle.layout.specs.declared.sound.State.{State}
+
+pub record Head (n : ℕ) (w : List ℕ) : Type 0 where
+  pub some : 1 ≤ objectLimit w
+  pub few : objectLimit w ≤ 4096
+  pub fewLinks : linkLimit w ≤ 16384
+  pub full : 1 ≤ n
+  pub most : n ≤ 1048576
+  pub room : need (objectLimit w) (linkLimit w) ≤ length w
+  pub size : storeLength w ≡ n
+  pub closed : closedCount w ≤ objectLimit w
+  pub depth : openDepth w ≤ 64
+  pub base : getD w endsAt 0 ≡ 0
+  pub linkBase : getD w linkEndsAt 0 ≡ 0
+
+pub record Sound (b w : List ℕ) : Type 0 where
+  pub head : Head (length b) w
+  pub rise : rises (ends w) ≡ true
+  pub linkRise : rises (linkEnds w) ≡ true
+  pub fall : falls 1 (begins w) ≡ true
+  pub linkFall : falls 0 (linkBegins w) ≡ true
+  pub apart : top w ≤ low w
+  pub inside : low w ≤ length b
+  pub linkApart : linkTop w ≤ linkLow w
+  pub linkInside : linkLow w ≤ linkLimit w
+  pub gap : zeros (part (top w) (low w) b) ≡ true
+  pub opens : forAll (λ d. objectOk (closedCount w) (openAt b w d)) (openDepth w) ≡ true
+  pub closed : forAll (λ i. objectOk i (closedAt b w i)) (closedCount w) ≡ true
+
+-- the counts and the edges, as read from sound stores
+pub record Read (b w : List ℕ) (s : State) : Type 0 where
+  pub objectsIs : s .objects ≡ objectLimit w
+  pub linksIs : s .links ≡ linkLimit w
+  pub closedIs : s .closed ≡ closedCount w
+  pub depthIs : s .depth ≡ openDepth w
+  pub topIs : s .top ≡ top w
+  pub lowIs : s .low ≡ low w
+  pub linkTopIs : s .«link_top» ≡ linkTop w
+  pub linkLowIs : s .«link_low» ≡ linkLow w
+  pub known : Sound b w

@@ -1,0 +1,6 @@
+pub mod Tables
+pub mod Words
+pub mod Fields
+pub mod Sound
+pub mod Decode
+pub mod Known

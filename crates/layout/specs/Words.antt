@@ -1,0 +1,108 @@
+-- The words of the record store. Byte store and links are stacked alike: open objects from the front, closed ones from the back.
+-- A table has a first entry that is a constant, so that every object lies between two neighbours.
+use Prim.Native.Nat.{ℕ, _+_, _*_, _≤_}
+use mathlib.Core.List.{List, [], _∷_}
+use native.Mathlib.Omega.{arith}
+use lib.ListN.{getD}
+use Rattle.lists.specs.Lists.{part}
+use Rattle.model.specs.Object.{Link}
+use Rattle.model.specs.Judge.{Limits}
+
+-- ---- the header
+
+abbrev pub objectLimit : List ℕ → ℕ
+objectLimit w = getD w 0 0
+
+abbrev pub closedCount : List ℕ → ℕ
+closedCount w = getD w 1 0
+
+abbrev pub openDepth : List ℕ → ℕ
+openDepth w = getD w 2 0
+
+-- ---- where the tables begin
+
+-- entry 0 is 0, entry d where open object d ends (counted from 1, the oldest first): in bytes, and in links
+abbrev pub endsAt : ℕ
+endsAt = 3
+
+abbrev pub linkEndsAt : ℕ
+linkEndsAt = 68
+
+-- entry 0 is the store's length, entry i + 1 where closed object i begins
+abbrev pub beginsAt : ℕ
+beginsAt = 133
+
+-- the same in links: entry 0 is the link limit
+abbrev pub linkBeginsAt : List ℕ → ℕ
+linkBeginsAt w = 134 + objectLimit w
+
+-- the links' records
+abbrev pub linksAt : List ℕ → ℕ
+linksAt w = 135 + objectLimit w * 2
+
+abbrev pub linkWords : ℕ
+linkWords = 3
+
+-- how many words the record store needs
+abbrev pub need : ℕ → ℕ → ℕ
+need objects links = 135 + objects * 2 + links * linkWords
+
+pub need-bound : (objects links : ℕ) → need objects links ≤ 4096 + 64 * (objects + links)
+need-bound objects links = omega arith
+
+-- ---- the limits
+
+abbrev pub storeLength : List ℕ → ℕ
+storeLength w = getD w beginsAt 0
+
+abbrev pub linkLimit : List ℕ → ℕ
+linkLimit w = getD w (linkBeginsAt w) 0
+
+abbrev pub limitsIn : List ℕ → Limits
+limitsIn w = record { objects = objectLimit w; links = linkLimit w; bytes = storeLength w }
+
+-- ---- the tables in use
+
+abbrev pub ends : List ℕ → List ℕ
+ends w = part endsAt (endsAt + openDepth w + 1) w
+
+abbrev pub linkEnds : List ℕ → List ℕ
+linkEnds w = part linkEndsAt (linkEndsAt + openDepth w + 1) w
+
+abbrev pub begins : List ℕ → List ℕ
+begins w = part beginsAt (beginsAt + closedCount w + 1) w
+
+abbrev pub linkBegins : List ℕ → List ℕ
+linkBegins w = part (linkBeginsAt w) (linkBeginsAt w + closedCount w + 1) w
+
+-- all links' records, open, free and closed
+abbrev pub linkArea : List ℕ → List ℕ
+linkArea w = part (linksAt w) (linksAt w + linkLimit w * linkWords) w
+
+-- where the open ones end, and where the closed ones begin
+abbrev pub top : List ℕ → ℕ
+top w = getD w (endsAt + openDepth w) 0
+
+abbrev pub linkTop : List ℕ → ℕ
+linkTop w = getD w (linkEndsAt + openDepth w) 0
+
+abbrev pub low : List ℕ → ℕ
+low w = getD w (beginsAt + closedCount w) 0
+
+abbrev pub linkLow : List ℕ → ℕ
+linkLow w = getD w (linkBeginsAt w + closedCount w) 0
+
+-- ---- a link's words
+
+abbrev pub wordsOf : Link → List ℕ
+wordsOf l = l .at ∷ l .width ∷ l .child ∷ []
+
+unfoldable pub linksOf : List ℕ → List Link
+linksOf [] = []
+linksOf (a ∷ []) = []
+linksOf (a ∷ k ∷ []) = []
+linksOf (a ∷ k ∷ c ∷ ws) = record { at = a; width = k; child = c } ∷ linksOf ws
+
+-- the link whose words begin at index i
+abbrev pub linkAt : List ℕ → ℕ → Link
+linkAt ws i = record { at = getD ws i 0; width = getD ws (i + 1) 0; child = getD ws (i + 2) 0 }
