@@ -40,3 +40,9 @@ pub enum Closing {
     Done(ObjectId, Tally),
     Refused(Refusal, Tally),
 }
+
+// Of pack: the table's length.
+pub enum Packing {
+    Done(usize, Tally),
+    Refused(Refusal, Tally),
+}

@@ -1,8 +1,11 @@
+pub mod Alike
 pub mod Elements
 pub mod Frames
 pub mod Holds
 pub mod Over
+pub mod Overs
 pub mod Parts
 pub mod Runs
 pub mod Same
 pub mod Tests
+pub mod Whole

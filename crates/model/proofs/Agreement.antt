@@ -16,7 +16,7 @@ use Rattle.model.specs.Table.{Outcome, placed, overflow, arranged, table
 use Rattle.model.specs.Reading.{Reading, readingAt, readings}
 use Rattle.model.specs.Judge.{Limits, Verdict, accepted, refused, judgeStart, judgeOpen, judgePut, judgeLink, judgeClose, judgeDrop, judgeTally, judgePack}
 use Rattle.model.specs.Told.{doneClose, donePack, refusal}
-use Rattle.model.specs.Session.{Needs, Session, tallyOf, started, withOpens, innermost, outer, onInnermost, twin, sealed, SessionCall, startCall, openCall, putCall, linkCall, closeCall, dropCall, tallyCall, Left, settle, step, Packing, content, tableIn, settlePack, pack, Call, sessionCall, packCall, afterCall}
+use Rattle.model.specs.Session.{Needs, Session, tallyOf, started, withOpens, innermost, outer, onInnermost, twin, sealed, SessionCall, startCall, openCall, putCall, linkCall, closeCall, dropCall, tallyCall, Left, settle, step, PackLeft, content, tableIn, settlePack, pack, Call, sessionCall, packCall, afterCall}
 use Rattle.model.specs.History.{History, counts, begun, judged, accept, next, after, idTold, tell, expected, Packed, PackAgrees, Agrees, AllAgree}
 use Rattle.model.proofs.Reach.{reached-rooted, reached-low}
 use Rattle.model.proofs.Tables.{layout}
@@ -78,7 +78,7 @@ module _ {s : Session} {h : History} (m : Mirrors s h) (id : ℕ) where
   ρ i = readingAt (readings (s .closed)) i
 
   -- an accepted pack that leaves table t
-  abbrev packing : List ℕ → Packing
+  abbrev packing : List ℕ → PackLeft
   packing t = record { told = donePack (tableLength g id) (tallyOf s); table = t }
 
   -- reached objects that read the same are the same

@@ -68,7 +68,7 @@ unfolding kidsOf count
 kids-snoc c [] l = omega arith
 kids-snoc c (k ∷ ls) l = omega (arith, kids-snoc c ls l)
 
-fields-room : (from n m : ℕ) (ls : List Link) → n ≤ m → FieldsIn from n ls → FieldsIn from m ls
+pub fields-room : (from n m : ℕ) (ls : List Link) → n ≤ m → FieldsIn from n ls → FieldsIn from m ls
 unfolding FieldsIn
 fields-room from n m [] h f = tt
 fields-room from n m (l ∷ ls) h f = (f .0, omega (arith, f .1), fields-room (l .at + l .width) n m ls h (f .2))

@@ -15,3 +15,7 @@ pub mod Twins
 pub mod Growth
 pub mod Mirrors
 pub mod Agreement
+pub mod Refusals
+pub mod Fair
+pub mod Closings
+pub mod Written

@@ -186,6 +186,15 @@ cases =
       counts = 0 ∷ 0 ∷ 0 ∷ 0 ∷ [];
       table = [];
     }
+    -- not the paper's: of a link's refusals the first that applies is told
+    ∷ record {
+      limits = limitsOf 1 0 1;
+      calls = links 3 7 ∷ (leaf (0x64 ∷ []) ++ (opens ∷ links 3 7 ∷ links 2 7 ∷ links 2 0 ∷ []));
+      numbers = 1 ∷ 0 ∷ 0 ∷ 0 ∷ 0 ∷ 3 ∷ 4 ∷ 7 ∷ [];
+      ids = 0 ∷ [];
+      counts = 1 ∷ 0 ∷ 1 ∷ 1 ∷ [];
+      table = [];
+    }
     ∷ record {
       limits = limitsOf 8 8 64;
       calls = tallies ∷ packCall 0 64 0 ∷ [];

@@ -11,7 +11,7 @@ use Rattle.answer.specs.declared.tally.Tally.{Tally}
 use Rattle.model.specs.Reading.{Reading, bytes, field, readingSize, fieldCount, readingAt, sameReading, Shows, below, different}
 use Rattle.model.specs.Judge.{Limits, Verdict, accepted, refused, judgeStart, judgeOpen, judgePut, judgeLink, judgeClose, judgeDrop, judgeTally}
 use Rattle.model.specs.Told.{Told, doneClose, refusal}
-use Rattle.model.specs.Session.{Needs, Session, SessionCall, startCall, openCall, putCall, linkCall, closeCall, dropCall, tallyCall, Call, sessionCall, packCall, step, Packing, pack, afterCall}
+use Rattle.model.specs.Session.{Needs, Session, SessionCall, startCall, openCall, putCall, linkCall, closeCall, dropCall, tallyCall, Call, sessionCall, packCall, step, PackLeft, pack, afterCall}
 
 -- objects as their readings so far: the open ones, the innermost first, and the closed ones numbered from 0
 pub record History : Type 0 where
@@ -125,13 +125,13 @@ unfoldable pub expected : Needs → SessionCall → History → Told
 expected n c h = tell (judged n c h) (counts h) (doneClose (idTold c h) (counts (accept c h)))
 
 -- an accepted pack leaves a table that shows the root's reading from its first byte, as long as the different readings in it
-pub record Packed (h : History) (root : ℕ) (p : Packing) : Type 0 where
+pub record Packed (h : History) (root : ℕ) (p : PackLeft) : Type 0 where
   pub shown : Shows (p .table) 0 (readingAt (h .closed) root)
   pub long : length (p .table) ≡ p .told .length
   pub sum : p .told .length ≡ total readingSize (different (readingAt (h .closed) root ∷ below (readingAt (h .closed) root)))
 
 -- the tally beside a pack's number is the history's, but zero beside 12 and 13
-pub record PackAgrees (h : History) (root : ℕ) (p : Packing) : Type 0 where
+pub record PackAgrees (h : History) (root : ℕ) (p : PackLeft) : Type 0 where
   pub counted : p .told .tally ≡ pick (leb 12 (p .told .number)) noTally (counts h)
   pub packed : p .told .number ≡ 0 → Packed h root p
 

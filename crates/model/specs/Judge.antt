@@ -63,6 +63,13 @@ notClosed t id = when (leb (t .objects) id) Refusal.NotClosed
 abbrev pub storeFull : Limits → Tally → ℕ → Test
 storeFull m t n = when (ltb (m .bytes) (t .bytes + n)) Refusal.StoreFull
 
+-- a width that is not 2 or 4
+abbrev pub badWidth : ℕ → Test
+badWidth width = when (not (widthOk width)) Refusal.BadWidth
+
+abbrev pub linksFull : Limits → Tally → Test
+linksFull m t = when (leb (m .links) (t .links)) Refusal.LinksFull
+
 -- ---- the eight calls
 
 abbrev pub inRange : Limits → List Bool
@@ -80,14 +87,7 @@ judgePut sound m t n = verdict (unsound sound ∷ nothingOpen t ∷ storeFull m 
 
 abbrev pub judgeLink : Bool → Limits → Tally → ℕ → ℕ → Verdict
 judgeLink sound m t width id =
-    verdict
-    (unsound sound
-    ∷ nothingOpen t
-    ∷ when (not (widthOk width)) Refusal.BadWidth
-    ∷ notClosed t id
-    ∷ when (leb (m .links) (t .links)) Refusal.LinksFull
-    ∷ storeFull m t width
-    ∷ [])
+    verdict (unsound sound ∷ nothingOpen t ∷ badWidth width ∷ notClosed t id ∷ linksFull m t ∷ storeFull m t width ∷ [])
 
 -- `size` is the innermost open object's; `twin` the lowest id of an equal closed one, or the count of closed ones
 abbrev pub judgeClose : Bool → Limits → Tally → ℕ → ℕ → Verdict

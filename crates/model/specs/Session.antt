@@ -103,7 +103,7 @@ step n tallyCall s = settle (judgeTally true) s (leaves s)
 
 -- ---- pack changes no session: what it tells, and the table that it writes
 
-pub record Packing : Type 0 where
+pub record PackLeft : Type 0 where
   pub told : Told
   pub table : List ℕ
 
@@ -114,12 +114,12 @@ abbrev pub tableIn : Session → Outcome → List ℕ
 tableIn s (placed o) = tableOf (graphOf (s .closed)) (content s) o
 tableIn s (overflow u) = []
 
-abbrev pub settlePack : Verdict → Session → Packing → Packing
+abbrev pub settlePack : Verdict → Session → PackLeft → PackLeft
 settlePack accepted s p = p
 settlePack (refused why) s p = record { told = refusal why (tallyOf s); table = [] }
 
 -- the root's id, and how much output and work memory is lent
-unfoldable pub pack : Needs → ℕ → ℕ → ℕ → Session → Packing
+unfoldable pub pack : Needs → ℕ → ℕ → ℕ → Session → PackLeft
 pack n id out work s =
     let g = graphOf (s .closed) in
     let outcome = arranged g id in

@@ -1,0 +1,152 @@
+-- Two accepted closings with no accepted start between them tell the same id exactly when their objects read the same.
+use mathlib.Core.Path.{_≡_, refl, sym, ap, _∙_}
+use Prim.Native.Nat.{ℕ, suc, _≤_, _<_}
+use mathlib.Core.List.{List, [], _∷_, _++_}
+use mathlib.Core.Bool.{Bool, true, false}
+use native.Mathlib.Omega.{arith}
+use borrow.Author.Tests.{ltb-true}
+use lib.ListN.{length, getD, length-append}
+use lib.Dec.{ltb}
+use Rattle.lists.specs.Lists.{pick, firstThat}
+use Rattle.lists.proofs.Frames.{first-most}
+use Rattle.model.specs.Reading.{Reading, bytes, sameReading, readingAt}
+use Rattle.model.specs.Judge.{Verdict, accepted, refused}
+use Rattle.model.specs.Session.{Needs, SessionCall, startCall, openCall, putCall, linkCall, closeCall, dropCall, tallyCall, Call, sessionCall, packCall}
+use Rattle.model.specs.History.{History, inner, idOf, closes, judged, accept, next, after, idTold, expected}
+use Rattle.model.proofs.SameReading.{reading-equal, reading-self}
+
+-- ---- the first that passes
+
+module _ {A : Type 0} (test : A → Bool) where
+  first-passes : (l : List A) (d : A) → firstThat test l < length l → test (getD l (firstThat test l) d) ≡ true
+  unfolding firstThat
+  first-passes [] d h = absurd (omega arith)
+  first-passes (x ∷ l) d h = go (test x) refl (first-passes l d) h
+    where
+      go : (b : Bool) → test x ≡ b → (firstThat test l < length l → test (getD l (firstThat test l) d) ≡ true) → pick b 0 (suc (firstThat test l)) < suc (length l)
+          → test (getD (x ∷ l) (pick b 0 (suc (firstThat test l))) d) ≡ true
+      go true e r h = e
+      go false e r h = r (omega arith)
+
+  -- one more behind: where none passes before it, it passes itself
+  first-more : (l : List A) (x : A) → (length l ≤ firstThat test l → test x ≡ true) → firstThat test (l ++ (x ∷ [])) ≡ firstThat test l
+  unfolding firstThat
+  first-more [] x h = rw (h (omega arith))
+  first-more (y ∷ l) x h = go (test y) (first-more l x) h
+    where
+      go : (b : Bool) → ((length l ≤ firstThat test l → test x ≡ true) → firstThat test (l ++ (x ∷ [])) ≡ firstThat test l)
+          → (suc (length l) ≤ pick b 0 (suc (firstThat test l)) → test x ≡ true) → pick b 0 (suc (firstThat test (l ++ (x ∷ [])))) ≡ pick b 0 (suc (firstThat test l))
+      go true r h = refl
+      go false r h = ap suc (r (λ k. h (omega arith)))
+
+-- ---- ids stay
+
+-- among closed readings the first equal to r has id i
+record Known (r : Reading) (i : ℕ) (l : List Reading) : Type 0 where
+  first : firstThat (sameReading r) l ≡ i
+  within : i < length l
+
+module _ {r : Reading} {i : ℕ} {l : List Reading} (k : Known r i l) where
+  known-equal : r ≡ readingAt l i
+  known-equal =
+      reading-equal r (readingAt l (firstThat (sameReading r) l)) (first-passes (sameReading r) l (bytes []) (omega (arith, k .first, k .within)))
+      ∙ ap (readingAt l) (k .first)
+
+  known-more : (x : Reading) → Known r i (l ++ (x ∷ []))
+  known-more x = record {
+    first = first-more (sameReading r) l x (λ h. absurd (omega (arith, k .first, k .within))) ∙ k .first;
+    within = omega (arith, length-append l (x ∷ []), k .within);
+  }
+
+-- after an accepted close its object's reading is known by the id that it tells
+known-closed : (h : History) → Known (inner (h .opens)) (idOf h) (closes h .closed)
+known-closed h = go (ltb (idOf h) (length (h .closed))) refl
+  where
+    go : (b : Bool) → ltb (idOf h) (length (h .closed)) ≡ b → Known (inner (h .opens)) (idOf h) (pick b (h .closed) (h .closed ++ (inner (h .opens) ∷ [])))
+    go true e = record { first = refl; within = ltb-true _ _ e }
+    go false e =
+        let r = inner (h .opens) in
+        record {
+          first = first-more (sameReading r) (h .closed) r (λ k. reading-self r);
+          within = omega (arith, length-append (h .closed) (r ∷ []), first-most (sameReading r) (h .closed));
+        }
+
+-- ---- lists of calls
+
+unfoldable pub afterAll : Needs → List Call → History → History
+afterAll n [] h = h
+afterAll n (c ∷ cs) h = afterAll n cs (after n c h)
+
+-- an accepted start
+unfoldable pub Starts : Needs → Call → History → Type 0
+Starts n (sessionCall (startCall m records)) h = judged n (startCall m records) h ≡ accepted
+Starts n (sessionCall openCall) h = ⊥
+Starts n (sessionCall (putCall vs)) h = ⊥
+Starts n (sessionCall (linkCall w id)) h = ⊥
+Starts n (sessionCall closeCall) h = ⊥
+Starts n (sessionCall dropCall) h = ⊥
+Starts n (sessionCall tallyCall) h = ⊥
+Starts n (packCall id out work) h = ⊥
+
+-- each call gets the history as the one before left it
+unfoldable pub NoStart : Needs → List Call → History → Type 0
+NoStart n [] h = Unit {0}
+NoStart n (c ∷ cs) h = (Starts n c h → ⊥) × NoStart n cs (after n c h)
+
+module _ (n : Needs) {r : Reading} {i : ℕ} where
+  -- only an accepted close adds a closed reading
+  known-accept : (c : SessionCall) (h : History) → (Starts n (sessionCall c) h → ⊥) → judged n c h ≡ accepted → Known r i (h .closed) → Known r i (accept c h .closed)
+  unfolding Starts accept
+  known-accept (startCall m records) h s e k = absurd (s e)
+  known-accept openCall h s e k = k
+  known-accept (putCall vs) h s e k = k
+  known-accept (linkCall w id) h s e k = k
+  known-accept closeCall h s e k = go (ltb (idOf h) (length (h .closed)))
+    where
+      go : (b : Bool) → Known r i (pick b (h .closed) (h .closed ++ (inner (h .opens) ∷ [])))
+      go true = k
+      go false = known-more k (inner (h .opens))
+  known-accept dropCall h s e k = k
+  known-accept tallyCall h s e k = k
+
+  known-after : (c : Call) (h : History) → (Starts n c h → ⊥) → Known r i (h .closed) → Known r i (after n c h .closed)
+  unfolding after
+  known-after (sessionCall c) h s k = go (judged n c h) (λ e. known-accept c h s e k)
+    where
+      go : (v : Verdict) → (v ≡ accepted → Known r i (accept c h .closed)) → Known r i (next v (accept c h) h .closed)
+      go accepted a = a refl
+      go (refused why) a = k
+  known-after (packCall id out work) h s k = k
+
+  known-all : (cs : List Call) (h : History) → NoStart n cs h → Known r i (h .closed) → Known r i (afterAll n cs h .closed)
+  unfolding NoStart afterAll
+  known-all [] h s k = k
+  known-all (c ∷ cs) h s k = known-all cs (after n c h) (s .1) (known-after c h (s .0) k)
+
+-- ---- the theorem
+
+-- i and j are the same id exactly when the innermost open objects of h and k read the same
+pub record Alike (h k : History) (i j : ℕ) : Type 0 where
+  pub read : i ≡ j → inner (h .opens) ≡ inner (k .opens)
+  pub same : inner (h .opens) ≡ inner (k .opens) → i ≡ j
+
+known-alike : (h k : History) → Known (inner (h .opens)) (idOf h) (k .closed) → Alike h k (idOf h) (idOf k)
+known-alike h k a = record {
+  read = λ e. known-equal a ∙ sym (known-equal (record { first = sym e; within = a .within }));
+  same = λ e. sym (a .first) ∙ ap (λ (r : Reading). firstThat (sameReading r) (k .closed)) e;
+}
+
+-- after a close and the calls cs
+abbrev pub later : Needs → List Call → History → History
+later n cs h = afterAll n (sessionCall closeCall ∷ cs) h
+
+module _ (n : Needs) (h : History) (cs : List Call) where
+  pub same-id : judged n closeCall h ≡ accepted → NoStart n (sessionCall closeCall ∷ cs) h → Alike h (later n cs h) (idOf h) (idOf (later n cs h))
+  unfolding NoStart afterAll after accept
+  same-id e s = known-alike h _ (known-all n cs (after n (sessionCall closeCall) h) (s .1) (rw e (known-closed h)))
+
+  -- the ids that the two closings tell
+  pub same-told : judged n closeCall h ≡ accepted → NoStart n (sessionCall closeCall ∷ cs) h → judged n closeCall (later n cs h) ≡ accepted
+      → Alike h (later n cs h) (expected n closeCall h .id) (expected n closeCall (later n cs h) .id)
+  unfolding expected idTold
+  same-told e s f = rw (e, f) (same-id e s)

@@ -1,0 +1,56 @@
+-- The closed objects of sound stores: children have lower ids, and fields are in order, apart and inside.
+use mathlib.Core.Path.{_≡_}
+use Prim.Native.Nat.{ℕ, zero, suc, _+_, _<_}
+use mathlib.Core.List.{List, [], _∷_}
+use mathlib.Core.Bool.{true}
+use native.Mathlib.Omega.{arith}
+use borrow.Author.Tests.{leb-true, ltb-true}
+use lib.ListN.{length}
+use Rattle.lists.specs.Lists.{holds}
+use Rattle.lists.proofs.Holds.{holds-at}
+use Rattle.lists.proofs.Same.{and-left, and-right}
+use Rattle.lists.proofs.Elements.{at-snoc}
+use Rattle.model.specs.Bag.{count}
+use Rattle.model.specs.Object.{Link, noObject, objectAt}
+use Rattle.model.specs.Graph.{kidsOf}
+use Rattle.model.specs.Table.{FieldsIn}
+use Rattle.model.proofs.Bags.{Same, same, other, sameOr}
+use Rattle.model.proofs.Growth.{Formed, formed-none}
+use Rattle.layout.specs.Tables.{forAll}
+use Rattle.layout.specs.Fields.{fieldTests, fieldsOk, objectOk}
+use Rattle.layout.specs.Words.{closedCount}
+use Rattle.layout.specs.Decode.{closedAt, closedTo, decode}
+use Rattle.layout.specs.Sound.{sound}
+use Rattle.layout.proofs.Facts.{sound-facts}
+use Rattle.session.proofs.Tallies.{length-closed}
+
+module _ (kids : ℕ) (bs : List ℕ) where
+  fields-in : (from : ℕ) (ls : List Link) → fieldsOk kids from bs ls ≡ true → FieldsIn from (length bs) ls
+  unfolding fieldsOk fieldTests FieldsIn
+  fields-in from [] h = tt
+  fields-in from (l ∷ ls) h =
+      let at = holds-at (fieldTests kids from bs l) (and-left (holds (fieldTests kids from bs l)) _ h) in
+      (leb-true _ _ (at 0), leb-true _ _ (at 2), fields-in (l .at + l .width) ls (and-right (holds (fieldTests kids from bs l)) _ h))
+
+  fields-low : (from : ℕ) (ls : List Link) → fieldsOk kids from bs ls ≡ true → (c : ℕ) → 0 < count c (kidsOf ls) → c < kids
+  unfolding fieldsOk fieldTests kidsOf count
+  fields-low from [] h c k = absurd (omega arith)
+  fields-low from (l ∷ ls) h c k = go (sameOr c (l .child)) (fields-low (l .at + l .width) ls (and-right (holds (fieldTests kids from bs l)) _ h) c)
+    where
+      go : Same c (l .child) → (0 < count c (kidsOf ls) → c < kids) → c < kids
+      go (same e _ _) r = rw e (ltb-true _ _ (holds-at (fieldTests kids from bs l) (and-left (holds (fieldTests kids from bs l)) _ h) 3))
+      go (other _ _ z) r = r (omega arith)
+
+-- the first n
+closed-formed : (b w : List ℕ) (n : ℕ) → forAll (λ i. objectOk i (closedAt b w i)) n ≡ true → (i : ℕ) → Formed i (objectAt (closedTo b w n) i)
+unfolding closedTo forAll
+closed-formed b w zero h i = formed-none i
+closed-formed b w (suc n) h i =
+    let o = closedAt b w n in
+    let here = and-left (objectOk n o) _ h in
+    at-snoc Formed (closedTo b w n) o noObject (λ j k. closed-formed b w n (and-right (objectOk n o) _ h) j)
+    (rw (length-closed b w n) record { low = fields-low n (o .bytes) 0 (o .links) here; inside = fields-in n (o .bytes) 0 (o .links) here }) i
+
+pub sound-formed : (b w : List ℕ) → sound b w ≡ true → (i : ℕ) → Formed i (objectAt (decode b w .closed) i)
+unfolding decode
+sound-formed b w h = closed-formed b w (closedCount w) (sound-facts b w h .closed)

@@ -1,0 +1,10 @@
+pub mod Copying
+pub mod ClosedObjects
+pub mod CopiedGraph
+pub mod Fields
+pub mod Stored
+pub mod Objects
+pub mod Formed
+pub mod Packs
+pub mod Orders
+pub mod Demand

@@ -1,0 +1,79 @@
+-- Paper 01, "The history of demand 3": a list of all eight calls on the two lent stores, and what is claimed of every one of them.
+use Prim.Native.Nat.{ℕ, _≤_}
+use mathlib.Core.Path.{_≡_}
+use mathlib.Core.List.{List, [], _∷_}
+use mathlib.Core.Bool.{true}
+use lib.ListN.{length, take, drop}
+use lib.Dec.{leb}
+use Rattle.lists.specs.Lists.{pick, total}
+use Rattle.answer.specs.Number.{noTally}
+use Rattle.answer.specs.declared.Packing.{Packing}
+use Rattle.answer.specs.declared.Packing.the-variants.{Done, Refused}
+use Rattle.model.specs.Told.{Told, donePack}
+use Rattle.model.specs.Reading.{readingAt, readingSize, Shows, below, different}
+use Rattle.model.specs.Session.{Needs, Call, sessionCall, packCall}
+use Rattle.model.specs.History.{History, counts, expected, after}
+use Rattle.layout.specs.Sound.{sound}
+use Rattle.session.specs.Runs.{StoreCall, Stores, stepOn, asCall, needsWith, refusedTold}
+use Rattle.order.specs.Need.{workNeed}
+use Rattle.packer.specs.Pack.{packStep}
+
+-- ---- the eight calls: a pack with its root and with what the output and the work memory hold
+
+pub data LentCall : Type 0 where
+  onStores : StoreCall → LentCall
+  pack : ℕ → List ℕ → List ℕ → LentCall
+
+abbrev pub toldByPack : Packing → Told
+toldByPack (Done n t) = donePack n t
+toldByPack (Refused why t) = refusedTold why t
+
+-- what a call tells, and what it leaves in all lent memory
+pub record LentLeft : Type 0 where
+  pub told : Told
+  pub stores : Stores
+  pub out : List ℕ
+  pub work : List ℕ
+
+unfoldable pub lentStep : LentCall → Stores → LentLeft
+lentStep (onStores c) s = record { told = stepOn c s .told; stores = stepOn c s .stores; out = []; work = [] }
+lentStep (pack id out work) s =
+    let o = packStep id (s .bytes) (s .words) out work in
+    record { told = toldByPack (o .answer); stores = s; out = o .out; work = o .work }
+
+-- the same call as the history is fed it: arguments and lent lengths
+unfoldable pub asLent : Stores → LentCall → Call
+asLent s (onStores c) = sessionCall (asCall s c)
+asLent s (pack id out work) = packCall id (length out) (length work)
+
+abbrev pub needs : Needs
+needs = needsWith (λ m. workNeed (m .objects) (m .links))
+
+-- ---- what is claimed of one call, by the history before it
+
+-- the table that an accepted pack left in front of the output
+pub record Table (h : History) (root : ℕ) (out : List ℕ) (l : LentLeft) : Type 0 where
+  pub room : l .told .length ≤ length (l .out)
+  pub shown : Shows (take (l .told .length) (l .out)) 0 (readingAt (h .closed) root)
+  pub rest : drop (l .told .length) (l .out) ≡ drop (l .told .length) out
+  pub sum : l .told .length ≡ total readingSize (different (readingAt (h .closed) root ∷ below (readingAt (h .closed) root)))
+
+pub record PackClaim (h : History) (root : ℕ) (out : List ℕ) (l : LentLeft) : Type 0 where
+  pub counted : l .told .tally ≡ pick (leb 12 (l .told .number)) noTally (counts h)
+  pub table : l .told .number ≡ 0 → Table h root out l
+  pub untouched : (l .told .number ≡ 0 → ⊥) → l .out ≡ out
+
+unfoldable pub Claim : LentCall → Stores → History → LentLeft → Type 0
+Claim (onStores c) s h l = l .told ≡ expected needs (asCall s c) h
+Claim (pack id out work) s h l = PackClaim h id out l
+
+-- ---- one claim about the whole list: every call leaves a sound session, never tells 12, and is as the history says
+
+unfoldable pub AllClaim : List LentCall → Stores → History → Type 0
+AllClaim [] s h = Unit {0}
+AllClaim (c ∷ cs) s h =
+    let l = lentStep c s in
+    (sound (l .stores .bytes) (l .stores .words) ≡ true)
+    × (l .told .number ≡ 12 → ⊥)
+    × Claim c s h l
+    × AllClaim cs (l .stores) (after needs (asLent s c) h)

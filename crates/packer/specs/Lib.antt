@@ -1,0 +1,4 @@
+pub mod Copy
+pub mod Pack
+pub mod Write
+pub mod Demand

@@ -1,0 +1,106 @@
+-- An object's fields stay right when bytes are put, a link is appended, and more objects are closed.
+use mathlib.Core.Path.{_≡_, refl, _∙_}
+use Prim.Native.Nat.{ℕ, _+_, _-_, _≤_, _<_}
+use native.Mathlib.Nat.{le-refl}
+use mathlib.Core.List.{List, [], _∷_, _++_}
+use mathlib.Core.Bool.{true}
+use native.Mathlib.Omega.{arith}
+use borrow.Author.Tests.{leb-true, ltb-true}
+use lib.ListN.{length, replicate, getD, length-append, length-replicate, getD-replicate, List·getD-append}
+use lib.Seq.{getD-append-add}
+use Rattle.lists.specs.Lists.{holds}
+use Rattle.lists.proofs.Holds.{holds-at}
+use Rattle.lists.proofs.Same.{and-left, and-right}
+use Rattle.lists.proofs.Frames.{zeros-in, zeros-of}
+use Rattle.model.specs.Object.{Link, Object, noObject, widthOk, withBytes, withLink}
+use Rattle.layout.specs.Fields.{fieldTests, fieldsOk, objectOk}
+use Rattle.layout.proofs.FieldTests.{field-bytes}
+
+-- what a right field's tests say
+record Field (kids from : ℕ) (bs : List ℕ) (l : Link) : Type 0 where
+  after : from ≤ l .at
+  wide : widthOk (l .width) ≡ true
+  inside : l .at + l .width ≤ length bs
+  known : l .child < kids
+  null : (i : ℕ) → l .at ≤ i → i < l .at + l .width → getD bs i 0 ≡ 0
+
+module _ (kids from : ℕ) (bs : List ℕ) (l : Link) (ls : List Link) where
+  first-field : fieldsOk kids from bs (l ∷ ls) ≡ true → Field kids from bs l
+  unfolding fieldsOk fieldTests
+  first-field h =
+      let at = holds-at (fieldTests kids from bs l) (and-left (holds (fieldTests kids from bs l)) (fieldsOk kids (l .at + l .width) bs ls) h) in
+      record {
+        after = leb-true _ _ (at 0);
+        wide = at 1;
+        inside = leb-true _ _ (at 2);
+        known = ltb-true _ _ (at 3);
+        null = zeros-in (l .at) (l .at + l .width) bs (at 4);
+      }
+
+  other-fields : fieldsOk kids from bs (l ∷ ls) ≡ true → fieldsOk kids (l .at + l .width) bs ls ≡ true
+  unfolding fieldsOk
+  other-fields h = and-right (holds (fieldTests kids from bs l)) (fieldsOk kids (l .at + l .width) bs ls) h
+
+  fields-of : Field kids from bs l → fieldsOk kids (l .at + l .width) bs ls ≡ true → fieldsOk kids from bs (l ∷ ls) ≡ true
+  unfolding fieldsOk
+  fields-of f h =
+      rw (← field-bytes kids from bs l (f .after) (f .wide) (f .inside) (f .known), zeros-of (l .at) (l .at + l .width) bs (f .inside) (f .null), h)
+
+-- bytes that begin as others do, and no fewer closed objects
+module _ (kids more : ℕ) (bs cs : List ℕ) (k : kids ≤ more) (longer : length bs ≤ length cs) (same : (i : ℕ) → i < length bs → getD cs i 0 ≡ getD bs i 0) where
+  field-kept : (from : ℕ) (l : Link) → Field kids from bs l → Field more from cs l
+  field-kept from l f = record {
+    after = f .after;
+    wide = f .wide;
+    inside = omega (arith, f .inside);
+    known = omega (arith, f .known);
+    null = λ i a b. same i (omega (arith, f .inside)) ∙ f .null i a b;
+  }
+
+  fields-kept : (from : ℕ) (ls : List Link) → fieldsOk kids from bs ls ≡ true → fieldsOk more from cs ls ≡ true
+  unfolding fieldsOk
+  fields-kept from [] h = refl
+  fields-kept from (l ∷ ls) h =
+      fields-of more from cs l ls (field-kept from l (first-field kids from bs l ls h)) (fields-kept (l .at + l .width) ls (other-fields kids from bs l ls h))
+
+  -- and a field behind them
+  fields-last : (from : ℕ) (ls : List Link) (m : Link) → from ≤ length bs → fieldsOk kids from bs ls ≡ true → Field more (length bs) cs m
+      → fieldsOk more from cs (ls ++ (m ∷ [])) ≡ true
+  unfolding fieldsOk
+  fields-last from [] m a h f =
+      fields-of more from cs m []
+      (record { after = omega (arith, f .after); wide = f .wide; inside = f .inside; known = f .known; null = f .null }) refl
+  fields-last from (l ∷ ls) m a h f =
+      let g = first-field kids from bs l ls h in
+      fields-of more from cs l (ls ++ (m ∷ [])) (field-kept from l g) (fields-last (l .at + l .width) ls m (g .inside) (other-fields kids from bs l ls h) f)
+
+-- ---- objects
+
+pub ok-none : (kids : ℕ) → objectOk kids noObject ≡ true
+unfolding fieldsOk
+ok-none kids = refl
+
+module _ (kids : ℕ) (o : Object) (h : objectOk kids o ≡ true) where
+  pub ok-more : (more : ℕ) → kids ≤ more → objectOk more o ≡ true
+  ok-more more k = fields-kept kids more (o .bytes) (o .bytes) k (le-refl _) (λ i b. refl) 0 (o .links) h
+
+  pub ok-put : (vs : List ℕ) → objectOk kids (withBytes vs o) ≡ true
+  ok-put vs =
+      fields-kept kids kids (o .bytes) (o .bytes ++ vs) (le-refl kids) (omega (arith, length-append (o .bytes) vs))
+      (λ i b. List·getD-append (o .bytes) vs 0 i b) 0 (o .links) h
+
+  pub ok-link : (width child : ℕ) → widthOk width ≡ true → child < kids → objectOk kids (withLink width child o) ≡ true
+  ok-link width child a b =
+      let n : ℕ = length (o .bytes) in
+      let zs : List ℕ = replicate width 0 in
+      let e = length-append (o .bytes) zs in
+      let f : length zs ≡ width = length-replicate width 0 in
+      fields-last kids kids (o .bytes) (o .bytes ++ zs) (le-refl kids) (omega arith) (λ i c. List·getD-append (o .bytes) zs 0 i c) 0 (o .links)
+      (record { at = n; width = width; child = child }) (omega arith) h
+      (record {
+        after = le-refl n;
+        wide = a;
+        inside = omega arith;
+        known = b;
+        null = λ i c d. let m : i ≡ n + (i - n) = omega arith in rw (m, getD-append-add (o .bytes) zs (i - n) 0) (getD-replicate width (i - n) 0 0 (omega arith));
+      })
