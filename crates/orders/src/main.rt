@@ -1,0 +1,222 @@
+// Prints, for each named graph, the two orders, the places of their nodes and the first link that does not fit.
+ghost use mathlib.Core.Path.{_≡_};
+ghost use mathlib.Core.Bool.{true};
+ghost use mathlib.Core.List.{_++_};
+ghost use Prim.Native.Nat.{_+_, _*_, _≤_};
+ghost use lib.ListN.{length};
+ghost use Rattle.order.specs.Run.{OrderIds};
+ghost use Rattle.orders.specs.Given.{given, Loaded, Ready};
+use order::fit::Look;
+use order::fit::try_order;
+
+fn print(text: &[u8]) {
+    io::write_all(1, text);
+}
+
+fn print_value(n: u64) {
+    io::print_decimal(1, n);
+}
+
+// Number t of a line.
+fn print_item(t: usize, n: u64) {
+    if t == 0 {
+        print_value(n);
+        return;
+    }
+    print(b" ");
+    print_value(n);
+}
+
+// The r placed nodes.
+fn print_ids(work: &[u64], p: usize, g: usize, r: usize)
+    requires { ⌜ (g + p * 6 ≤ length (now work)) × OrderIds p g p r (now work) ⌝ }
+{
+    let mut t = 0;
+    while t < r {
+        print_item(t, work[g + p * 4 + t]);
+        t += 1;
+    }
+}
+
+// The place of each.
+fn print_places(work: &[u64], p: usize, g: usize, r: usize)
+    requires { ⌜ (g + p * 6 ≤ length (now work)) × OrderIds p g p r (now work) ⌝ }
+{
+    let mut t = 0;
+    while t < r {
+        let i = work[g + p * 4 + t] as usize;
+        print_item(t, work[g + p * 5 + i]);
+        t += 1;
+    }
+}
+
+fn print_look(look: Look) {
+    match look {
+        Look::Fits => print(b"none"),
+        Look::Over(u) => {
+            print_value(u.parent.0 as u64);
+            print(b" ");
+            print_value(u.field as u64);
+            print(b" ");
+            print_value(u.needed as u64);
+        }
+    }
+}
+
+fn show_order(name: &[u8], work: &mut [u64], p: usize, g: usize, keyed: bool)
+    requires { ⌜ Ready p g (now work) ⌝ }
+    ensures { λ _. ⌜ Ready p g (now (work .exit)) ⌝ }
+{
+    let a = try_order(work, p, g, p, p - 1, keyed);
+    print(name);
+    print_ids(work, p, g, a.placed);
+    print(b"\nplaces=");
+    print_places(work, p, g, a.placed);
+    print(b"\noverflow=");
+    let look = a.look;
+    print_look(look);
+    print(b"\n");
+}
+
+// The words, from place `at` of the memory on.
+fn load(words: &[u64], work: &mut [u64], at: usize)
+    requires { ⌜ at + length (now words) ≤ length (now work) ⌝ }
+    ensures { λ _. ⌜ Loaded (now (words .entry)) at (now (work .entry)) (now (work .exit)) ⌝ }
+{
+    let mut i = 0;
+    while i < words.len() {
+        work[at + i] = words[i];
+        i += 1;
+    }
+}
+
+// Nodes: p sizes, p numbers of first links, p counts of links. A link: field place, width, child. The last node is the root.
+fn show(name: &[u8], nodes: &[u64], links: &[u64], p: usize)
+    requires { ⌜ given p (now nodes ++ now links) ≡ true ⌝ }
+{
+    let mut space: [u64; 96] = [0; 96];
+    let work: &mut [u64] = &mut space;
+    load(nodes, work, 0);
+    load(links, work, nodes.len());
+    print(b"graph ");
+    print(name);
+    let g = nodes.len() + links.len();
+    show_order(b"\nkahn=", work, p, g, false);
+    show_order(b"distance=", work, p, g, true);
+}
+
+fn graph_5() {
+    let nodes: [u64; 9] = [1, 2, 4, 0, 0, 1, 0, 1, 2];
+    let links: [u64; 9] = [0, 2, 0, 0, 2, 0, 2, 2, 1];
+    show(b"5", &nodes, &links, 3);
+}
+
+fn graph_11() {
+    let nodes: [u64; 9] = [65531, 10, 4, 0, 0, 0, 0, 0, 2];
+    let links: [u64; 6] = [0, 2, 0, 2, 2, 1];
+    show(b"11", &nodes, &links, 3);
+}
+
+fn graph_12() {
+    let nodes: [u64; 9] = [65532, 10, 4, 0, 0, 0, 0, 0, 2];
+    let links: [u64; 6] = [0, 2, 0, 2, 2, 1];
+    show(b"12", &nodes, &links, 3);
+}
+
+fn graph_13() {
+    let nodes: [u64; 9] = [65532, 65532, 4, 0, 0, 0, 0, 0, 2];
+    let links: [u64; 6] = [0, 2, 0, 2, 2, 1];
+    show(b"13", &nodes, &links, 3);
+}
+
+fn graph_14() {
+    let nodes: [u64; 21] = [
+        1,
+        1,
+        40000,
+        40000,
+        2,
+        2,
+        8,
+        0,
+        0,
+        0,
+        1,
+        2,
+        3,
+        4,
+        0,
+        0,
+        1,
+        1,
+        1,
+        1,
+        2,
+    ];
+    let links: [u64; 18] = [0, 2, 0, 0, 2, 1, 0, 2, 2, 0, 2, 3, 0, 4, 4, 4, 4, 5];
+    show(b"14", &nodes, &links, 7);
+}
+
+fn graph_links_x_y_x() {
+    let nodes: [u64; 9] = [1, 1, 6, 0, 0, 0, 0, 0, 3];
+    let links: [u64; 9] = [0, 2, 0, 2, 2, 1, 4, 2, 0];
+    show(b"links x y x", &nodes, &links, 3);
+}
+
+fn graph_unreached_parent() {
+    let nodes: [u64; 9] = [1, 3, 2, 0, 0, 1, 0, 1, 1];
+    let links: [u64; 6] = [1, 2, 0, 0, 2, 0];
+    show(b"unreached parent", &nodes, &links, 3);
+}
+
+fn graph_equal_distances_ids_along() {
+    let nodes: [u64; 15] = [65531, 65530, 5, 6, 4, 0, 0, 0, 1, 2, 0, 0, 1, 1, 2];
+    let links: [u64; 12] = [3, 2, 0, 4, 2, 1, 0, 2, 2, 2, 2, 3];
+    show(b"equal distances ids along", &nodes, &links, 5);
+}
+
+fn graph_equal_distances_ids_other_way_round() {
+    let nodes: [u64; 15] = [65530, 65531, 5, 6, 4, 0, 0, 0, 1, 2, 0, 0, 1, 1, 2];
+    let links: [u64; 12] = [3, 2, 1, 4, 2, 0, 0, 2, 2, 2, 2, 3];
+    show(b"equal distances ids other way round", &nodes, &links, 5);
+}
+
+fn graph_lighter_link_second() {
+    let nodes: [u64; 15] = [1, 3, 65530, 10, 10, 0, 0, 0, 0, 1, 0, 0, 0, 1, 4];
+    let links: [u64; 15] = [6, 4, 0, 0, 2, 2, 2, 2, 3, 4, 4, 1, 8, 2, 1];
+    show(b"lighter link second", &nodes, &links, 5);
+}
+
+fn graph_lighter_link_first() {
+    let nodes: [u64; 15] = [1, 3, 65530, 10, 10, 0, 0, 0, 0, 1, 0, 0, 0, 1, 4];
+    let links: [u64; 15] = [6, 4, 0, 0, 2, 2, 2, 2, 3, 4, 2, 1, 6, 4, 1];
+    show(b"lighter link first", &nodes, &links, 5);
+}
+
+fn graph_different_ready_times() {
+    let nodes: [u64; 15] = [65540, 65541, 6, 5, 4, 0, 0, 0, 1, 2, 0, 0, 1, 1, 2];
+    let links: [u64; 12] = [4, 2, 0, 3, 2, 1, 0, 2, 2, 2, 2, 3];
+    show(b"different ready times", &nodes, &links, 5);
+}
+
+fn graph_least_of_two_paths() {
+    let nodes: [u64; 15] = [7, 9, 5, 5, 4, 0, 0, 0, 1, 3, 0, 0, 1, 2, 2];
+    let links: [u64; 15] = [1, 4, 0, 1, 2, 1, 3, 2, 0, 0, 2, 2, 2, 2, 3];
+    show(b"least of two paths", &nodes, &links, 5);
+}
+
+fn main() {
+    graph_5();
+    graph_11();
+    graph_12();
+    graph_13();
+    graph_14();
+    graph_links_x_y_x();
+    graph_unreached_parent();
+    graph_equal_distances_ids_along();
+    graph_equal_distances_ids_other_way_round();
+    graph_lighter_link_second();
+    graph_lighter_link_first();
+    graph_different_ready_times();
+    graph_least_of_two_paths();
+}
