@@ -2,14 +2,14 @@
 use Prim.Native.Nat.{_≤_, _-_}
 use lib.ListN.{length}
 use borrow.Author.Needs.{needs}
-use Rattle.demo.proofs.print_bytes.Statement.{statement}
-use Rattle.demo.proofs.print_bytes.Tie as tie
+use Rattle.cases.proofs.print.print_bytes.Statement.{statement}
+use Rattle.cases.proofs.print.print_bytes.Tie as tie
 
 abbrev Inv-loop : tie.InvT-loop
-Inv-loop s i₀ i = i ≤ length s
+Inv-loop store i₀ i = i ≤ length store
 
 abbrev μ-loop : tie.MeasureT-loop
-μ-loop s i₀ i = length s - i
+μ-loop store i₀ i = length store - i
 
 loop-holds : tie.Need-loop-holds Inv-loop μ-loop
 loop-holds c = search needs
