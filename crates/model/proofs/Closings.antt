@@ -1,4 +1,4 @@
--- Two accepted closings with no accepted start between them tell the same id exactly when their objects read the same.
+-- Until the next accepted start a closing tells an id exactly when its object reads as the id's first one did.
 use mathlib.Core.Path.{_≡_, refl, sym, ap, _∙_}
 use Prim.Native.Nat.{ℕ, suc, _≤_, _<_}
 use mathlib.Core.List.{List, [], _∷_, _++_}
@@ -12,7 +12,7 @@ use Rattle.lists.proofs.Frames.{first-most}
 use Rattle.model.specs.Reading.{Reading, bytes, sameReading, readingAt}
 use Rattle.model.specs.Judge.{Verdict, accepted, refused}
 use Rattle.model.specs.Session.{Needs, SessionCall, startCall, openCall, putCall, linkCall, closeCall, dropCall, tallyCall, Call, sessionCall, packCall}
-use Rattle.model.specs.History.{History, inner, idOf, closes, judged, accept, next, after, idTold, expected}
+use Rattle.model.specs.History.{History, inner, idOf, closes, judged, accept, next, after, Alike}
 use Rattle.model.proofs.SameReading.{reading-equal, reading-self}
 
 -- ---- the first that passes
@@ -42,9 +42,9 @@ module _ {A : Type 0} (test : A → Bool) where
 -- ---- ids stay
 
 -- among closed readings the first equal to r has id i
-record Known (r : Reading) (i : ℕ) (l : List Reading) : Type 0 where
-  first : firstThat (sameReading r) l ≡ i
-  within : i < length l
+pub record Known (r : Reading) (i : ℕ) (l : List Reading) : Type 0 where
+  pub first : firstThat (sameReading r) l ≡ i
+  pub within : i < length l
 
 module _ {r : Reading} {i : ℕ} {l : List Reading} (k : Known r i l) where
   known-equal : r ≡ readingAt l i
@@ -58,8 +58,15 @@ module _ {r : Reading} {i : ℕ} {l : List Reading} (k : Known r i l) where
     within = omega (arith, length-append l (x ∷ []), k .within);
   }
 
+-- another reading has that id exactly if it is the same
+pub known-alike : {r : Reading} {i : ℕ} {l : List Reading} → Known r i l → (q : Reading) → Alike q r (firstThat (sameReading q) l) i
+known-alike {l = l} k q = record {
+  read = λ e. known-equal (record { first = e; within = k .within }) ∙ sym (known-equal k);
+  same = λ e. ap (λ (x : Reading). firstThat (sameReading x) l) e ∙ k .first;
+}
+
 -- after an accepted close its object's reading is known by the id that it tells
-known-closed : (h : History) → Known (inner (h .opens)) (idOf h) (closes h .closed)
+pub known-closed : (h : History) → Known (inner (h .opens)) (idOf h) (closes h .closed)
 known-closed h = go (ltb (idOf h) (length (h .closed))) refl
   where
     go : (b : Bool) → ltb (idOf h) (length (h .closed)) ≡ b → Known (inner (h .opens)) (idOf h) (pick b (h .closed) (h .closed ++ (inner (h .opens) ∷ [])))
@@ -71,11 +78,7 @@ known-closed h = go (ltb (idOf h) (length (h .closed))) refl
           within = omega (arith, length-append (h .closed) (r ∷ []), first-most (sameReading r) (h .closed));
         }
 
--- ---- lists of calls
-
-unfoldable pub afterAll : Needs → List Call → History → History
-afterAll n [] h = h
-afterAll n (c ∷ cs) h = afterAll n cs (after n c h)
+-- ---- until the next accepted start
 
 -- an accepted start
 unfoldable pub Starts : Needs → Call → History → Type 0
@@ -87,11 +90,6 @@ Starts n (sessionCall closeCall) h = ⊥
 Starts n (sessionCall dropCall) h = ⊥
 Starts n (sessionCall tallyCall) h = ⊥
 Starts n (packCall id out work) h = ⊥
-
--- each call gets the history as the one before left it
-unfoldable pub NoStart : Needs → List Call → History → Type 0
-NoStart n [] h = Unit {0}
-NoStart n (c ∷ cs) h = (Starts n c h → ⊥) × NoStart n cs (after n c h)
 
 module _ (n : Needs) {r : Reading} {i : ℕ} where
   -- only an accepted close adds a closed reading
@@ -109,7 +107,7 @@ module _ (n : Needs) {r : Reading} {i : ℕ} where
   known-accept dropCall h s e k = k
   known-accept tallyCall h s e k = k
 
-  known-after : (c : Call) (h : History) → (Starts n c h → ⊥) → Known r i (h .closed) → Known r i (after n c h .closed)
+  pub known-after : (c : Call) (h : History) → (Starts n c h → ⊥) → Known r i (h .closed) → Known r i (after n c h .closed)
   unfolding after
   known-after (sessionCall c) h s k = go (judged n c h) (λ e. known-accept c h s e k)
     where
@@ -117,36 +115,3 @@ module _ (n : Needs) {r : Reading} {i : ℕ} where
       go accepted a = a refl
       go (refused why) a = k
   known-after (packCall id out work) h s k = k
-
-  known-all : (cs : List Call) (h : History) → NoStart n cs h → Known r i (h .closed) → Known r i (afterAll n cs h .closed)
-  unfolding NoStart afterAll
-  known-all [] h s k = k
-  known-all (c ∷ cs) h s k = known-all cs (after n c h) (s .1) (known-after c h (s .0) k)
-
--- ---- the theorem
-
--- i and j are the same id exactly when the innermost open objects of h and k read the same
-pub record Alike (h k : History) (i j : ℕ) : Type 0 where
-  pub read : i ≡ j → inner (h .opens) ≡ inner (k .opens)
-  pub same : inner (h .opens) ≡ inner (k .opens) → i ≡ j
-
-known-alike : (h k : History) → Known (inner (h .opens)) (idOf h) (k .closed) → Alike h k (idOf h) (idOf k)
-known-alike h k a = record {
-  read = λ e. known-equal a ∙ sym (known-equal (record { first = sym e; within = a .within }));
-  same = λ e. sym (a .first) ∙ ap (λ (r : Reading). firstThat (sameReading r) (k .closed)) e;
-}
-
--- after a close and the calls cs
-abbrev pub later : Needs → List Call → History → History
-later n cs h = afterAll n (sessionCall closeCall ∷ cs) h
-
-module _ (n : Needs) (h : History) (cs : List Call) where
-  pub same-id : judged n closeCall h ≡ accepted → NoStart n (sessionCall closeCall ∷ cs) h → Alike h (later n cs h) (idOf h) (idOf (later n cs h))
-  unfolding NoStart afterAll after accept
-  same-id e s = known-alike h _ (known-all n cs (after n (sessionCall closeCall) h) (s .1) (rw e (known-closed h)))
-
-  -- the ids that the two closings tell
-  pub same-told : judged n closeCall h ≡ accepted → NoStart n (sessionCall closeCall ∷ cs) h → judged n closeCall (later n cs h) ≡ accepted
-      → Alike h (later n cs h) (expected n closeCall h .id) (expected n closeCall (later n cs h) .id)
-  unfolding expected idTold
-  same-told e s f = rw (e, f) (same-id e s)

@@ -135,6 +135,11 @@ pub record PackAgrees (h : History) (root : ℕ) (p : PackLeft) : Type 0 where
   pub counted : p .told .tally ≡ pick (leb 12 (p .told .number)) noTally (counts h)
   pub packed : p .told .number ≡ 0 → Packed h root p
 
+-- two ids are the same exactly when the objects that they were told for read the same
+pub record Alike (q r : Reading) (j i : ℕ) : Type 0 where
+  pub read : j ≡ i → q ≡ r
+  pub same : q ≡ r → j ≡ i
+
 -- ---- one claim about a whole list of calls
 
 unfoldable pub Agrees : Needs → Call → Session → History → Type 0

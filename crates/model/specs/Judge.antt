@@ -48,7 +48,7 @@ unfoldable pub verdict : List Test → Verdict
 verdict [] = accepted
 verdict (t ∷ ts) = pick (t .applies) (refused (t .tells)) (verdict ts)
 
--- ---- tests that several calls share: whether the session is sound, what it holds
+-- ---- tests: whether the session is sound, what it holds, what a call brings
 
 abbrev pub unsound : Bool → Test
 unsound sound = when (not sound) Refusal.Unsound
@@ -69,6 +69,21 @@ badWidth width = when (not (widthOk width)) Refusal.BadWidth
 
 abbrev pub linksFull : Limits → Tally → Test
 linksFull m t = when (leb (m .links) (t .links)) Refusal.LinksFull
+
+-- `work` words are lent, and `need` are needed
+abbrev pub workShort : ℕ → ℕ → Test
+workShort work need = when (ltb work need) Refusal.OutOfRange
+
+abbrev pub objectOpen : Tally → Test
+objectOpen t = when (not (eqb (t .depth) 0)) Refusal.ObjectOpen
+
+-- `out` bytes are lent, and the table has `length`
+abbrev pub outputShort : ℕ → ℕ → Test
+outputShort out length = when (ltb out length) Refusal.OutputShort
+
+abbrev pub overflows : Outcome → List Test
+overflows (placed o) = []
+overflows (overflow u) = when true (Refusal.Overflow u) ∷ []
 
 -- ---- the eight calls
 
@@ -105,17 +120,6 @@ judgeDrop sound t = verdict (unsound sound ∷ nothingOpen t ∷ [])
 abbrev pub judgeTally : Bool → Verdict
 judgeTally sound = verdict (unsound sound ∷ [])
 
-abbrev pub overflows : Outcome → List Test
-overflows (placed o) = []
-overflows (overflow u) = when true (Refusal.Overflow u) ∷ []
-
--- `work` words are lent, and `need` are needed; `out` bytes are lent, and the table has `length`
 abbrev pub judgePack : Bool → Tally → ℕ → ℕ → ℕ → ℕ → ℕ → Outcome → Verdict
 judgePack sound t id work need out length outcome =
-    verdict
-    (unsound sound
-    ∷ when (ltb work need) Refusal.OutOfRange
-    ∷ when (not (eqb (t .depth) 0)) Refusal.ObjectOpen
-    ∷ notClosed t id
-    ∷ when (ltb out length) Refusal.OutputShort
-    ∷ overflows outcome)
+    verdict (unsound sound ∷ workShort work need ∷ objectOpen t ∷ notClosed t id ∷ outputShort out length ∷ overflows outcome)

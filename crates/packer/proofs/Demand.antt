@@ -1,24 +1,29 @@
 -- Paper 01, demand 3: after an accepted start every call of every list leaves a sound session, never tells 12, and is as the history says.
-use mathlib.Core.Path.{_≡_, refl, _∙_}
+use mathlib.Core.Path.{_≡_, refl, ap, _∙_}
 use Prim.Native.Nat.{ℕ}
 use mathlib.Core.List.{List, [], _∷_}
 use native.Mathlib.Nat.{zero-add}
 use native.Mathlib.Omega.{arith}
-use lib.ListN.{length, take, drop}
+use lib.ListN.{length, take, drop as dropped}
 use lib.Seq.{take-at, drop-at}
 use Rattle.lists.specs.Lists.{over}
 use Rattle.lists.proofs.Over.{length-over}
-use Rattle.model.specs.Session.{Session, sessionCall, packCall, PackLeft, step, afterCall}
-use Rattle.model.specs.History.{History, begun, after, PackAgrees, Agrees}
+use Rattle.model.specs.Reading.{Reading}
+use Rattle.model.specs.Judge.{Verdict, accepted, refused}
+use Rattle.model.specs.Told.{Told, doneClose}
+use Rattle.model.specs.Session.{Session, SessionCall, closeCall, sessionCall, packCall, PackLeft, step, afterCall}
+use Rattle.model.specs.History.{History, inner, idOf, counts, begun, judged, accept, after, tell, idTold, expected, PackAgrees, Agrees}
+use Rattle.model.proofs.Verdicts.{refused-number}
+use Rattle.model.proofs.Closings.{Known, known-alike, known-closed, Starts, known-after}
 use Rattle.model.proofs.Mirrors.{Mirrors, mirrors-started}
 use Rattle.model.proofs.Agreement.{call-agrees, call-mirrors}
 use Rattle.order.specs.Need.{workNeed}
 use Rattle.session.specs.Steps.{limitsOf}
-use Rattle.session.specs.Runs.{start, Stores, stepOn, asCall, Drawn}
+use Rattle.session.specs.Runs.{start, open', put, link, close, drop, tally, Stores, stepOn, asCall, Drawn}
 use Rattle.session.proofs.Steps.{step-drawn, start-drawn}
 use Rattle.session.proofs.Runs.{never-unsound}
 use Rattle.packer.specs.Pack.{PackOut}
-use Rattle.packer.specs.Demand.{LentCall, onStores, pack as packOn, toldByPack, lentStep, asLent, needs, PackClaim, Claim, AllClaim}
+use Rattle.packer.specs.Demand.{LentCall, onStores, pack as packOn, toldByPack, LentLeft, lentStep, asLent, needs, PackClaim, Claim, Made, run, Closes, NoStart, KeepsId, AllClaim}
 use Rattle.packer.proofs.Packs.{PackFollows, pack-follows}
 
 -- ---- pack: the table in front of the output
@@ -27,7 +32,7 @@ over-front : (vs l : List ℕ) → take (length vs) (over 0 vs l) ≡ vs
 unfolding over
 over-front vs l = take-at vs _ (length vs) refl
 
-over-rest : (vs l : List ℕ) → drop (length vs) (over 0 vs l) ≡ drop (length vs) l
+over-rest : (vs l : List ℕ) → dropped (length vs) (over 0 vs l) ≡ dropped (length vs) l
 unfolding over
 over-rest vs l = drop-at vs _ (length vs) refl ∙ rw zero-add
 
@@ -79,16 +84,63 @@ claimed (packOn id out work) {s = s} k =
       stands = record { session = k .session; drawn = k .drawn; mirrors = call-mirrors needs (k .mirrors) d };
     }
 
+-- ---- ids
+
+-- what a session call that is accepted tells, by the history
+done-told : (c : SessionCall) (h : History) → judged needs c h ≡ accepted → expected needs c h .number ≡ 0
+unfolding expected
+done-told c h e = rw e
+
+told-done : (c : SessionCall) (h : History) → expected needs c h .number ≡ 0 → judged needs c h ≡ accepted
+unfolding expected
+told-done c h = go (judged needs c h)
+  where
+    go : (v : Verdict) → tell v (counts h) (doneClose (idTold c h) (counts (accept c h))) .number ≡ 0 → v ≡ accepted
+    go accepted e = refl
+    go (refused why) e = absurd (omega (arith, refused-number why))
+
+module _ (s : Stores) (h : History) where
+  -- an accepted close is the history's, and tells its id
+  closed-told : {m : Made} → Claim (m .call) s h (m .left) → Closes m → (judged needs closeCall h ≡ accepted) × (m .left .told .id ≡ idOf h)
+  unfolding Claim asCall expected idTold
+  closed-told {m} k c =
+      let t : m .left .told ≡ expected needs closeCall h = rw (c .close-is) at k in
+      let e = told-done closeCall h (rw t at (c .accepted)) in
+      (e, ap (λ (x : Told). x .id) t ∙ rw e)
+
+  no-start : (c : LentCall) {l : LentLeft} → Claim c s h l → NoStart (record { call = c; left = l }) → Starts needs (asLent s c) h → ⊥
+  unfolding Claim asLent asCall Starts
+  no-start (onStores (start o k)) z n e = n .none o k refl (rw z (done-told _ h e))
+  no-start (onStores open') z n e = e
+  no-start (onStores (put vs)) z n e = e
+  no-start (onStores (link w i)) z n e = e
+  no-start (onStores close) z n e = e
+  no-start (onStores drop) z n e = e
+  no-start (onStores tally) z n e = e
+  no-start (packOn id out work) z n e = e
+
+  -- after it the object's reading is known by that id
+  closed-known : (c : LentCall) {l : LentLeft} → Claim c s h l → Closes (record { call = c; left = l }) → Known (inner (h .opens)) (l .told .id) (after needs (asLent s c) h .closed)
+  unfolding after asLent asCall accept
+  closed-known c k z = let t = closed-told k z in rw (z .close-is, t .0, t .1) (known-closed h)
+
+keeps-id : {r : Reading} {i : ℕ} (cs : List LentCall) {s : Stores} {h : History} → Stands s h → Known r i (h .closed) → KeepsId r i (run cs s) s h
+unfolding KeepsId run
+keeps-id [] k q = tt
+keeps-id (c ∷ cs) {s = s} {h = h} k q =
+    let l = claimed c k in
+    (λ z. rw (closed-told s h (l .claim) z .1) (known-alike q (inner (h .opens))), λ n. keeps-id cs (l .stands) (known-after needs _ h (no-start s h c (l .claim) n) q))
+
 -- ---- a list of calls
 
-all-claim : (cs : List LentCall) {s : Stores} {h : History} → Stands s h → AllClaim cs s h
-unfolding AllClaim
+all-claim : (cs : List LentCall) {s : Stores} {h : History} → Stands s h → AllClaim (run cs s) s h
+unfolding AllClaim run
 all-claim [] k = tt
-all-claim (c ∷ cs) k =
+all-claim (c ∷ cs) {s = s} {h = h} k =
     let l = claimed c k in
-    (l .stands .drawn .isSound, l .trusted, l .claim, all-claim cs (l .stands))
+    (l .stands .drawn .isSound, l .trusted, l .claim, λ z. keeps-id cs (l .stands) (closed-known s h c (l .claim) z), all-claim cs (l .stands))
 
-pub demand-3 : (objects links : ℕ) (s : Stores) → stepOn (start objects links) s .told .number ≡ 0
-    → (cs : List LentCall) → AllClaim cs (stepOn (start objects links) s .stores) (begun (limitsOf objects links (s .bytes)))
+pub demand-3 : (objects links : ℕ) (s : Stores) → stepOn (start objects links) s .told .number ≡ 0 → (cs : List LentCall)
+    → let s₁ = stepOn (start objects links) s .stores in AllClaim (run cs s₁) s₁ (begun (limitsOf objects links (s .bytes)))
 demand-3 objects links s e cs =
     all-claim cs (record { session = _; drawn = start-drawn objects links s e .drawn; mirrors = mirrors-started (limitsOf objects links (s .bytes)) })

@@ -2,9 +2,12 @@ pub mod Copying
 pub mod ClosedObjects
 pub mod CopiedGraph
 pub mod Fields
+pub mod Formed
 pub mod Stored
 pub mod Objects
-pub mod Formed
+pub mod Laying
+pub mod Works
 pub mod Packs
 pub mod Orders
 pub mod Demand
+pub mod Program

@@ -10,11 +10,11 @@ use Rattle.answer.specs.Number.{noTally}
 use Rattle.answer.specs.declared.Packing.{Packing}
 use Rattle.answer.specs.declared.Packing.the-variants.{Done, Refused}
 use Rattle.model.specs.Told.{Told, donePack}
-use Rattle.model.specs.Reading.{readingAt, readingSize, Shows, below, different}
+use Rattle.model.specs.Reading.{Reading, readingAt, readingSize, Shows, below, different}
 use Rattle.model.specs.Session.{Needs, Call, sessionCall, packCall}
-use Rattle.model.specs.History.{History, counts, expected, after}
+use Rattle.model.specs.History.{History, inner, counts, expected, after, Alike}
 use Rattle.layout.specs.Sound.{sound}
-use Rattle.session.specs.Runs.{StoreCall, Stores, stepOn, asCall, needsWith, refusedTold}
+use Rattle.session.specs.Runs.{StoreCall, start, close, Stores, stepOn, asCall, needsWith, refusedTold}
 use Rattle.order.specs.Need.{workNeed}
 use Rattle.packer.specs.Pack.{packStep}
 
@@ -67,13 +67,42 @@ unfoldable pub Claim : LentCall → Stores → History → LentLeft → Type 0
 Claim (onStores c) s h l = l .told ≡ expected needs (asCall s c) h
 Claim (pack id out work) s h l = PackClaim h id out l
 
--- ---- one claim about the whole list: every call leaves a sound session, never tells 12, and is as the history says
+-- ---- a list of calls, with what each left
 
-unfoldable pub AllClaim : List LentCall → Stores → History → Type 0
+pub record Made : Type 0 where
+  pub call : LentCall
+  pub left : LentLeft
+
+-- each call gets the stores as the one before left them
+unfoldable pub run : List LentCall → Stores → List Made
+run [] s = []
+run (c ∷ cs) s = record { call = c; left = lentStep c s } ∷ run cs (lentStep c s .stores)
+
+pub record Closes (m : Made) : Type 0 where
+  pub close-is : m .call ≡ onStores close
+  pub accepted : m .left .told .number ≡ 0
+
+-- it is no accepted start
+pub record NoStart (m : Made) : Type 0 where
+  pub none : (objects links : ℕ) → m .call ≡ onStores (start objects links) → m .left .told .number ≡ 0 → ⊥
+
+-- up to the next accepted start an accepted close tells i exactly if its object reads r
+unfoldable pub KeepsId : Reading → ℕ → List Made → Stores → History → Type 0
+KeepsId r i [] s h = Unit {0}
+KeepsId r i (m ∷ ms) s h =
+    (Closes m → Alike (inner (h .opens)) r (m .left .told .id) i)
+    × (NoStart m → KeepsId r i ms (m .left .stores) (after needs (asLent s (m .call)) h))
+
+-- ---- one claim about the whole list: every call leaves a sound session, never tells 12, and is as the history says; an id that a
+-- close told is kept for its reading
+
+unfoldable pub AllClaim : List Made → Stores → History → Type 0
 AllClaim [] s h = Unit {0}
-AllClaim (c ∷ cs) s h =
-    let l = lentStep c s in
+AllClaim (m ∷ ms) s h =
+    let l = m .left in
+    let h′ = after needs (asLent s (m .call)) h in
     (sound (l .stores .bytes) (l .stores .words) ≡ true)
     × (l .told .number ≡ 12 → ⊥)
-    × Claim c s h l
-    × AllClaim cs (l .stores) (after needs (asLent s c) h)
+    × Claim (m .call) s h l
+    × (Closes m → KeepsId (inner (h .opens)) (l .told .id) ms (l .stores) h′)
+    × AllClaim ms (l .stores) h′

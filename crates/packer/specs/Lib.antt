@@ -1,4 +1,5 @@
 pub mod Copy
 pub mod Pack
 pub mod Write
+pub mod Lay
 pub mod Demand

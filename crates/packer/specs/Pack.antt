@@ -11,7 +11,7 @@ use Rattle.answer.specs.declared.Refusal.{Refusal}
 use Rattle.answer.specs.declared.Packing.{Packing}
 use Rattle.answer.specs.declared.Packing.the-variants.{Done, Refused}
 use Rattle.model.specs.Graph.{graphOf}
-use Rattle.model.specs.Table.{arranged, tableLength}
+use Rattle.model.specs.Table.{Outcome, arranged, tableLength}
 use Rattle.model.specs.Judge.{Verdict, accepted, refused, judgePack}
 use Rattle.model.specs.Session.{tableIn}
 use Rattle.layout.specs.Words.{objectLimit, linkLimit}
@@ -40,11 +40,15 @@ abbrev pub settle : Verdict → List ℕ → List ℕ → List ℕ → List ℕ 
 settle accepted b w out work done = done
 settle (refused why) b w out work done = packed (Refused why (beside why (tallyIn b w))) out (pick (clears why) (cleared w work) work)
 
+-- by a verdict, on a table of this size and this outcome of the orders
+abbrev pub packBy : Verdict → ℕ → Outcome → List ℕ → List ℕ → List ℕ → List ℕ → PackOut
+packBy v size outcome b w out work =
+    settle v b w out work (packed (Done size (tallyIn b w)) (over 0 (tableIn (decode b w) outcome) out) (cleared w work))
+
 unfoldable pub packStep : ℕ → List ℕ → List ℕ → List ℕ → List ℕ → PackOut
 packStep id b w out work =
-    let s = decode b w in
-    let g = graphOf (s .closed) in
+    let g = graphOf (decode b w .closed) in
     let size = tableLength g id in
     let outcome = arranged g id in
-    settle (judgePack (sound b w) (tallyIn b w) id (length work) (workNeed (objectLimit w) (linkLimit w)) (length out) size outcome) b w out work
-    (packed (Done size (tallyIn b w)) (over 0 (tableIn s outcome) out) (cleared w work))
+    let need = workNeed (objectLimit w) (linkLimit w) in
+    packBy (judgePack (sound b w) (tallyIn b w) id (length work) need (length out) size outcome) size outcome b w out work

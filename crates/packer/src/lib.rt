@@ -1,4 +1,10 @@
-// The eighth call in the making: a session's graph copied into the work memory, and the table written from an order and its places.
-// Both are for proved callers.
+// The eighth call: pack. It ends and answers on any memory, and asks nothing of its caller; the session never changes, and a refused
+// call leaves the output as it was.
+//
+// The other functions do its work on stores that are known to be sound; they are for proved callers.
 pub mod graph;
+mod packing;
 pub mod writing;
+
+pub use packing::pack;
+pub use packing::pack_sound;

@@ -1,0 +1,172 @@
+-- Each way through pack's code, as its definition has it.
+use mathlib.Core.Path.{_≡_, refl, sym, ap, _∙_}
+use Prim.Native.Nat.{ℕ, _+_, _*_, _≤_, _<_}
+use mathlib.Core.List.{List, _∷_}
+use mathlib.Core.Bool.{true, false, not}
+use native.Mathlib.Omega.{arith}
+use borrow.Author.Tests.{eq-eqb, ne-eqb, le-leb, lt-leb, lt-ltb, le-ltb}
+use lib.ListN.{length, replicate, length-replicate}
+use lib.Dec.{eqb, ltb}
+use Rattle.lists.specs.Lists.{over}
+use Rattle.lists.proofs.Runs.{over-none}
+use Rattle.regions.specs.Region.{Kept}
+use Rattle.regions.proofs.Frame.{kept-then, kept-less}
+use Rattle.answer.specs.Number.{noTally, beside}
+use Rattle.answer.specs.declared.tally.Tally.{Tally}
+use Rattle.answer.specs.declared.Overflow.{Overflow}
+use Rattle.answer.specs.declared.Refusal.{Refusal}
+use Rattle.answer.specs.declared.Refusal.the-variants as Refusal
+use Rattle.answer.specs.declared.Packing.{Packing}
+use Rattle.answer.specs.declared.Packing.the-variants.{Done, Refused}
+use Rattle.model.specs.Graph.{Graph, graphOf}
+use Rattle.model.specs.Table.{Outcome, placed, overflow, arranged, tableLength}
+use Rattle.model.specs.Judge.{Test, refused, verdict, outputShort, overflows, judgePack}
+use Rattle.model.specs.Session.{tableIn}
+use Rattle.model.proofs.Refusals.{Comes, this, next, verdict-is}
+use Rattle.layout.specs.Words.{objectLimit, linkLimit, closedCount, openDepth}
+use Rattle.layout.specs.Decode.{decode}
+use Rattle.layout.specs.Sound.{sound}
+use Rattle.layout.specs.declared.sound.State.{State}
+use Rattle.layout.proofs.Facts.{sound-of}
+use Rattle.session.specs.Steps.{tallyIn}
+use Rattle.session.proofs.Held.{Held}
+use Rattle.order.specs.Graph.{graphIn}
+use Rattle.order.specs.Pass.{Relaxing, Measured}
+use Rattle.order.specs.Need.{workNeed}
+use Rattle.order.specs.declared.fit.Look.{Look}
+use Rattle.order.specs.declared.fit.Look.the-variants.{Fits, Over}
+use Rattle.packer.specs.Copy.{Copied, graphEnd}
+use Rattle.packer.specs.Pack.{PackOut, packed, cleared, clears, settle, packBy, packStep}
+use Rattle.packer.specs.Lay.{Laying, Laid, lookIn, Packable, Packed}
+
+-- ---- the two tests left once the graph is copied, on a table of n bytes
+
+module _ (b w : List ℕ) (n : ℕ) (out m : List ℕ) where
+  abbrev restOn : Outcome → PackOut
+  restOn u = packBy (verdict (outputShort (length out) n ∷ overflows u)) n u b w out m
+
+  short-told : (u : Outcome) → length out < n → packed (Refused Refusal.OutputShort (tallyIn b w)) out (cleared w m) ≡ restOn u
+  unfolding verdict
+  short-told u h = rw (lt-ltb (length out) n h)
+
+  done-told : (u : Outcome) → n ≤ length out → Fits ≡ lookIn u → packed (Done n (tallyIn b w)) (over 0 (tableIn (decode b w) u) out) (cleared w m) ≡ restOn u
+  unfolding verdict
+  done-told (placed o) h e = rw (le-ltb (length out) n h)
+  done-told (overflow v) h e = absurd (let q : _≡_ {A = ℕ} 0 1 = cc in omega arith)
+
+  over-told : (u : Outcome) {o : Overflow} → n ≤ length out → Over o ≡ lookIn u
+      → packed (Refused (Refusal.Overflow o) (tallyIn b w)) (over 0 (tableIn (decode b w) u) out) (cleared w m) ≡ restOn u
+  unfolding verdict
+  over-told (placed o) h e = absurd (let q : _≡_ {A = ℕ} 0 1 = cc in omega arith)
+  over-told (overflow v) {o} h e = let q : o ≡ v = cc in rw (le-ltb (length out) n h, q, over-none 0 out)
+
+module _ {b w : List ℕ} {s : State} {t : Tally} {root : ℕ} {m : List ℕ} (c : Packable b w s t root m) where
+  abbrev g : Graph
+  g = graphOf (decode b w .closed)
+
+  module _ {m₁ : List ℕ} (q : Copied b w m m₁) where
+    pub pack-relaxing : Relaxing (s .objects) (s .objects * 3 + s .links * 3) (s .closed) root m₁
+    pack-relaxing = record {
+      long = omega (arith, c .long, q .kept .long, c .read .objectsIs, c .read .linksIs);
+      tidy = rw (c .read .objectsIs, c .read .linksIs, c .read .closedIs) (q .tidy);
+      inside = omega (arith, c .known, c .read .closedIs);
+    }
+
+    -- the length n is told, and the work memory is m₂
+    module _ {n : ℕ} {m₂ : List ℕ} (z : Measured (s .objects) (s .objects * 3 + s .links * 3) (s .closed) root n m₁ m₂) where
+      measured : Measured (objectLimit w) (graphEnd w) (closedCount w) root n m₁ m₂
+      measured = rw (c .read .objectsIs, c .read .linksIs, c .read .closedIs) at z
+
+      length-is : n ≡ tableLength g root
+      length-is = measured .size ∙ ap (λ x. tableLength x root) (q .graph)
+
+      kept : Kept 0 (workNeed (objectLimit w) (linkLimit w)) m m₂
+      kept = kept-then (kept-less (q .kept) 0 _ (omega arith) (omega arith)) (kept-less (measured .kept) 0 _ (omega arith) (omega arith))
+
+      pub pack-laying : {room : ℕ} → n ≤ room → Laying b w s root room m₂
+      pack-laying h = record {
+        read = c .read;
+        long = omega (arith, c .long, kept .long);
+        tidy = rw (measured .kept .front) (q .tidy);
+        graph = ap (graphIn (objectLimit w) (closedCount w)) (measured .kept .front) ∙ q .graph;
+        known = c .known;
+        fits = omega (arith, length-is);
+      }
+
+      module _ (out : List ℕ) where
+        pub pack-short : length out < n → Packed b w root (Refused Refusal.OutputShort t) out out m m₂
+        pack-short h = record { kept = kept; told = rw (c .tally) (short-told b w (tableLength g root) out m (arranged g root) (omega (arith, length-is))) }
+
+        module _ (h : n ≤ length out) where
+          room : tableLength g root ≤ length out
+          room = omega (arith, length-is)
+
+          module _ {r : Look} {out′ m₃ : List ℕ} (l : Laid b w (arranged g root) r out out′ m₂ m₃) where
+            kept-all : Kept 0 (workNeed (objectLimit w) (linkLimit w)) m m₃
+            kept-all = kept-then kept (kept-less (l .kept) 0 _ (omega arith) (omega arith))
+
+            pub pack-fits : r ≡ Fits → Packed b w root (Done n t) out out′ m m₃
+            pack-fits e = record {
+              kept = kept-all;
+              told = rw (c .tally, l .written, length-is) (done-told b w (tableLength g root) out m (arranged g root) room (sym e ∙ l .told));
+            }
+
+            pub pack-over : {o : Overflow} → r ≡ Over o → Packed b w root (Refused (Refusal.Overflow o) t) out out′ m m₃
+            pack-over e = record {
+              kept = kept-all;
+              told = rw (c .tally, l .written) (over-told b w (tableLength g root) out m (arranged g root) room (sym e ∙ l .told));
+            }
+
+-- ---- the tests before
+
+settle-refused : {ts : List Test} {why : Refusal} {t : Tally} (b w out m : List ℕ) (done : PackOut) → Comes ts (refused why) → t ≡ beside why (tallyIn b w) → clears why ≡ false
+    → packed (Refused why t) out m ≡ settle (verdict ts) b w out m done
+settle-refused b w out m done c e k = rw (verdict-is c, e, k)
+
+pub pack-unsound : {t : Tally} (b w : List ℕ) (id : ℕ) (out m : List ℕ) → t ≡ noTally → sound b w ≡ false → packed (Refused Refusal.Unsound t) out m ≡ packStep id b w out m
+unfolding packStep
+pack-unsound b w id out m e h = settle-refused b w out m _ (this (rw h)) e refl
+
+pub packable : {b w : List ℕ} {s : State} {t : Tally} {id : ℕ} {m : List ℕ} → Held b w s t → workNeed (s .objects) (s .links) ≤ length m → id < t .objects → Packable b w s t id m
+packable h long known = record { read = h .counts; tally = h .tallyIs; known = omega arith; long = omega arith }
+
+module _ {b w : List ℕ} {s : State} {t : Tally} (h : Held b w s t) (id : ℕ) (out m : List ℕ) where
+  abbrev need : ℕ
+  need = workNeed (s .objects) (s .links)
+
+  isSound : not (sound b w) ≡ false
+  isSound = rw (sound-of (h .counts .known))
+
+  pub pack-little : {z : Tally} → z ≡ noTally → length m < need → packed (Refused Refusal.OutOfRange z) out m ≡ packStep id b w out m
+  unfolding packStep
+  pack-little e k = settle-refused b w out m _ (next isSound (this (lt-ltb (length m) _ (omega arith)))) e refl
+
+  module _ (long : need ≤ length m) where
+    enough : ltb (length m) (workNeed (objectLimit w) (linkLimit w)) ≡ false
+    enough = le-ltb (length m) _ (omega arith)
+
+    pub pack-open : 0 < t .depth → packed (Refused Refusal.ObjectOpen t) out m ≡ packStep id b w out m
+    unfolding packStep
+    pack-open k = settle-refused b w out m _ (next isSound (next enough (this (rw (ne-eqb (openDepth w) 0 (λ e. omega arith)))))) (h .tallyIs) refl
+
+    module _ (none : t .depth ≤ 0) where
+      idle : not (eqb (openDepth w) 0) ≡ false
+      idle = rw (eq-eqb (openDepth w) 0 (omega arith))
+
+      pub pack-unknown : t .objects ≤ id → packed (Refused Refusal.NotClosed t) out m ≡ packStep id b w out m
+      unfolding packStep
+      pack-unknown k = settle-refused b w out m _ (next isSound (next enough (next idle (this (le-leb (closedCount w) id (omega arith)))))) (h .tallyIs) refl
+
+      module _ (known : id < t .objects) where
+        -- the needed words cleared
+        cleared-again : {m′ m″ : List ℕ} → Kept 0 (workNeed (objectLimit w) (linkLimit w)) m m′ → m″ ≡ over 0 (replicate (s .objects * 3 + s .links * 3 + s .objects * 6) 0) m′ → m″ ≡ cleared w m
+        unfolding over
+        cleared-again k e =
+            let n = workNeed (objectLimit w) (linkLimit w) in
+            let z : 0 + n ≡ n = omega arith in
+            e ∙ rw (h .counts .objectsIs, h .counts .linksIs, length-replicate {A = ℕ} n 0, z, k .back)
+
+        pub pack-done : {r : Packing} {out′ m′ m″ : List ℕ} → Packed b w id r out out′ m m′ → m″ ≡ over 0 (replicate (s .objects * 3 + s .links * 3 + s .objects * 6) 0) m′
+            → packed r out′ m″ ≡ packStep id b w out m
+        unfolding packStep verdict
+        pack-done p e = rw (cleared-again (p .kept) e, isSound, enough, idle, lt-leb (closedCount w) id (omega arith)) (p .told)

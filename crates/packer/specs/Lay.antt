@@ -1,0 +1,66 @@
+-- Orders laid: placed in the work memory and, where every offset fits, the table written in front of the output.
+use Prim.Native.Nat.{ℕ, _≤_, _<_}
+use mathlib.Core.Path.{_≡_}
+use mathlib.Core.List.{List, [], _∷_}
+use mathlib.Core.Bool.{Bool}
+use lib.ListN.{length, take}
+use Rattle.lists.specs.Lists.{over}
+use Rattle.regions.specs.Region.{Kept}
+use Rattle.answer.specs.declared.tally.Tally.{Tally}
+use Rattle.answer.specs.declared.Packing.{Packing}
+use Rattle.model.specs.Graph.{graphOf}
+use Rattle.model.specs.Table.{Outcome, placed, overflow, firstFit, arranged, tableLength}
+use Rattle.model.specs.Judge.{verdict, outputShort, overflows}
+use Rattle.model.specs.Session.{tableIn}
+use Rattle.layout.specs.Words.{objectLimit, linkLimit, closedCount}
+use Rattle.layout.specs.Decode.{decode}
+use Rattle.layout.specs.Known.{Read}
+use Rattle.layout.specs.declared.sound.State.{State}
+use Rattle.session.specs.Steps.{tallyIn}
+use Rattle.order.specs.Graph.{graphIn, Tidy}
+use Rattle.order.specs.Fit.{orderWith}
+use Rattle.order.specs.Need.{workNeed}
+use Rattle.order.specs.declared.fit.Look.{Look}
+use Rattle.order.specs.declared.fit.Look.the-variants.{Fits, Over}
+use Rattle.packer.specs.Copy.{graphEnd}
+use Rattle.packer.specs.Pack.{packed, cleared, packBy}
+
+-- what laying an order from a root asks: the graph stands in the work memory m, and its table has room
+pub record Laying (b w : List ℕ) (s : State) (root room : ℕ) (m : List ℕ) : Type 0 where
+  pub read : Read b w s
+  pub long : workNeed (objectLimit w) (linkLimit w) ≤ length m
+  pub tidy : Tidy (objectLimit w) (graphEnd w) (closedCount w) (take (graphEnd w) m)
+  pub graph : graphIn (objectLimit w) (closedCount w) (take (graphEnd w) m) ≡ graphOf (decode b w .closed)
+  pub known : root < closedCount w
+  pub fits : tableLength (graphOf (decode b w .closed)) root ≤ room
+
+abbrev pub lookIn : Outcome → Look
+lookIn (placed o) = Fits
+lookIn (overflow u) = Over u
+
+-- the outcome where this order alone is tried
+abbrev pub oneOrder : List ℕ → List ℕ → ℕ → Bool → Outcome
+oneOrder b w root keyed = firstFit (graphOf (decode b w .closed)) (orderWith keyed (graphOf (decode b w .closed)) root) []
+
+-- u came out: the look r tells it, its table is over the output, and of the work memory the graph and the surplus stand
+pub record Laid (b w : List ℕ) (u : Outcome) (r : Look) (out out′ m m′ : List ℕ) : Type 0 where
+  pub kept : Kept (graphEnd w) (workNeed (objectLimit w) (linkLimit w)) m m′
+  pub told : r ≡ lookIn u
+  pub written : out′ ≡ over 0 (tableIn (decode b w) u) out
+
+-- ---- a pack to which 12, 13, 9 and 4 do not apply
+
+pub record Packable (b w : List ℕ) (s : State) (t : Tally) (root : ℕ) (m : List ℕ) : Type 0 where
+  pub read : Read b w s
+  pub tally : t ≡ tallyIn b w
+  pub known : root < closedCount w
+  pub long : workNeed (objectLimit w) (linkLimit w) ≤ length m
+
+-- it told r by the tests left, and will have done what they ask once the needed work memory is cleared
+pub record Packed (b w : List ℕ) (root : ℕ) (r : Packing) (out out′ m m′ : List ℕ) : Type 0 where
+  pub kept : Kept 0 (workNeed (objectLimit w) (linkLimit w)) m m′
+  pub told :
+      let g = graphOf (decode b w .closed) in
+      let size = tableLength g root in
+      let outcome = arranged g root in
+      packed r out′ (cleared w m) ≡ packBy (verdict (outputShort (length out) size ∷ overflows outcome)) size outcome b w out m
