@@ -1,18 +1,19 @@
-// Runs the calls that standard input names, a line each, and prints what every one tells and, where asked, both stores.
+// Runs the calls that standard input names, a line each, and prints what every one tells and what it leaves in lent memory.
 //
 // A line is one letter and its arguments: `c` a case's name, `l` the lengths of the two stores lent from then on, `s` start with two
-// limits, `o` open, `p` put with bytes in hex, `f` put of many bytes, `k` link with width and id, `e` close, `d` drop, `t` tally, `v` both
-// stores with so many words.
+// limits, `o` open, `p` put with bytes in hex, `f` put of one byte many times, `k` link with width and id, `e` close, `d` drop, `t` tally,
+// `a` pack with the root's id and the lengths of the output and the work memory, `v` both stores.
+mod calls;
 mod lines;
+mod memory;
 mod print;
 
-use answer::ObjectId;
+use calls::call;
 use lines::line_end;
 use lines::number;
-use lines::unhex;
-use print::show;
-use print::tell;
-use print::tell_close;
+use memory::at_most;
+use memory::fill_bytes;
+use memory::fill_words;
 use print::text;
 
 // How much of the two stores is lent.
@@ -21,139 +22,82 @@ pub struct Lent {
     pub words: usize,
 }
 
-fn letter(line: &[u8]) -> u8 {
-    if line.len() == 0 {
-        return 0;
-    }
-    line[0]
-}
-
-fn put_many(store: &mut [u8], records: &mut [u32], n: u64) {
-    let space = io::large_buffer();
-    let bytes: &[u8] = &space;
-    if n <= 65536 {
-        let k = n as usize;
-        tell(b"put", session::put(store, records, &bytes[..k]));
-    }
-}
-
-fn put_few(store: &mut [u8], records: &mut [u32], line: &[u8]) {
-    let b = unhex(line);
-    let space = b.space;
-    let bytes: &[u8] = &space;
-    let k = b.count;
-    if k <= 16 {
-        tell(b"put", session::put(store, records, &bytes[..k]));
-    }
-}
-
-fn writes(op: u8, line: &[u8], store: &mut [u8], records: &mut [u32]) {
+// Lends so much, with nothing of a session in it.
+fn lend(line: &[u8], store: &mut [u8], records: &mut [u32]) -> Lent {
     let a = number(line, 2);
     let b = number(line, a.next);
-    if op == b's' {
-        let objects = (a.value % 4294967296) as u32;
-        let links = (b.value % 4294967296) as u32;
-        tell(b"start", session::start(store, records, objects, links));
-        return;
-    }
-    if op == b'p' {
-        put_few(store, records, line);
-        return;
-    }
-    if op == b'f' {
-        put_many(store, records, b.value);
-    }
+    let n = at_most(a.value, store.len());
+    let r = at_most(b.value, records.len());
+    fill_bytes(&mut store[..n], 0xa5);
+    fill_words(&mut records[..r], 0xa5a5a5a5);
+    Lent { bytes: n, words: r }
 }
 
-fn ends(op: u8, store: &mut [u8], records: &mut [u32]) {
-    if op == b'e' {
-        tell_close(session::close(store, records));
-        return;
+fn case(line: &[u8]) {
+    text(b"case ");
+    if 2 <= line.len() {
+        text(&line[2..]);
     }
-    if op == b'd' {
-        tell(b"drop", session::drop(store, records));
-    }
-}
-
-fn reads(op: u8, line: &[u8], store: &[u8], records: &mut [u32]) {
-    let a = number(line, 2);
-    let b = number(line, a.next);
-    if op == b'o' {
-        tell(b"open", session::open(store, records));
-        return;
-    }
-    if op == b'k' {
-        let width = (a.value % 4294967296) as u32;
-        let id = (b.value % 4294967296) as u32;
-        tell(b"link", session::link(store, records, width, ObjectId(id)));
-        return;
-    }
-    if op == b't' {
-        tell(b"tally", session::tally(store, records));
-        return;
-    }
-    if op == b'v' {
-        show(store, records, (a.value % 65536) as usize);
-    }
+    text(b"\n");
 }
 
 // One line on the parts of the stores that are lent.
-fn run_line(line: &[u8], lent: Lent, store: &mut [u8], records: &mut [u32]) -> Lent {
-    let op = letter(line);
-    if op == b'c' {
-        text(b"case ");
-        if 2 <= line.len() {
-            text(&line[2..]);
-        }
-        text(b"\n");
+fn run_line(
+    line: &[u8],
+    lent: Lent,
+    store: &mut [u8],
+    records: &mut [u32],
+    out: &mut [u8],
+    work: &mut [u64],
+) -> Lent {
+    if line.len() == 0 {
         return lent;
     }
-    if op == b'l' {
-        let a = number(line, 2);
-        let b = number(line, a.next);
-        return Lent {
-            bytes: (a.value % 65536) as usize,
-            words: (b.value % 65536) as usize,
-        };
-    }
-    let n = lent.bytes;
-    let r = lent.words;
-    if store.len() < n {
+    if line[0] == b'c' {
+        case(line);
         return lent;
     }
-    if records.len() < r {
-        return lent;
+    if line[0] == b'l' {
+        return lend(line, store, records);
     }
-    run_call(op, line, &mut store[..n], &mut records[..r]);
+    let n = at_most(lent.bytes as u64, store.len());
+    let r = at_most(lent.words as u64, records.len());
+    call(line, &mut store[..n], &mut records[..r], out, work);
     lent
 }
 
-fn run_call(op: u8, line: &[u8], store: &mut [u8], records: &mut [u32]) {
-    writes(op, line, store, records);
-    ends(op, store, records);
-    reads(op, line, store, records);
-}
-
 // The first n bytes of the input, line by line.
-fn run(input: &[u8], n: usize) {
+fn run(
+    input: &[u8],
+    n: usize,
+    store: &mut [u8],
+    records: &mut [u32],
+    out: &mut [u8],
+    work: &mut [u64],
+) {
     if input.len() < n {
         return;
     }
-    let mut bytes: [u8; 64] = [0; 64];
-    let mut words: [u32; 256] = [0; 256];
-    let store: &mut [u8] = &mut bytes;
-    let records: &mut [u32] = &mut words;
     let mut lent = Lent { bytes: 0, words: 0 };
     let mut at = 0;
     while at < n {
         let end = line_end(input, at);
-        lent = run_line(&input[at..end], lent, store, records);
+        lent = run_line(&input[at..end], lent, store, records, out, work);
         at = end + 1;
     }
 }
 
+// The memory that stores, output and work memory are lent from.
+fn run_in_memory(input: &[u8], n: usize) {
+    let mut store: [u8; 196608] = [0; 196608];
+    let mut records: [u32; 512] = [0; 512];
+    let mut out: [u8; 196608] = [0; 196608];
+    let mut work: [u64; 512] = [0; 512];
+    run(input, n, &mut store, &mut records, &mut out, &mut work);
+}
+
 fn main() {
-    let mut space: [u8; 4096] = [0; 4096];
-    let n = io::read_full(0, &mut space);
-    run(&space, n);
+    let mut input: [u8; 65536] = [0; 65536];
+    let n = io::read_full(0, &mut input);
+    run_in_memory(&input, n);
 }

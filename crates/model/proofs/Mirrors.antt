@@ -15,7 +15,7 @@ use Rattle.model.specs.Table.{Fields}
 use Rattle.model.specs.Reading.{Reading, readingSize, fieldCount, sameReading, readLinks, readObject, readingsFrom, readings}
 use Rattle.model.specs.Judge.{Limits}
 use Rattle.model.specs.Session.{Session, tallyOf, started, withOpens, innermost, outer, onInnermost, twin, sealed, SessionCall, openCall, putCall, linkCall, closeCall, dropCall}
-use Rattle.model.specs.History.{History, counts, begun, inner, others, idOf, accept}
+use Rattle.model.specs.History.{History, counts, begun, keepOpens, inner, others, idOf, accept}
 use Rattle.model.proofs.Readings.{read-more, readings-snoc}
 use Rattle.model.proofs.Growth.{read-size, read-count, read-put, read-link, total-readings, Formed, formed-none, formed-more, formed-put, formed-link}
 use Rattle.model.proofs.Twins.{Distinct, distinct-snoc, readings-count, twin-id}
@@ -37,7 +37,8 @@ module _ (s : Session) where
       let b = total-map fieldCount readOpen linkCount (read-count (readings os)) (s .opens) in
       let c = total-readings readingSize sizeOf read-size os in
       let d = total-readings fieldCount linkCount read-count os in
-      rw (a, b, c, d, readings-count os, length-map (s .opens) readOpen)
+      let held : tallyOf s .bytes ≡ counts historyOf .bytes = omega (arith, a, c) in
+      rw (held, b, d, readings-count os, length-map (s .opens) readOpen)
 
 -- ---- the invariant
 
@@ -105,7 +106,9 @@ module _ {s : Session} {h : History} (m : Mirrors s h) where
 
   -- the id of the equal closed object is that of the equal closed reading
   pub mirrors-twin : twin s ≡ idOf h
-  mirrors-twin = first-twin ∙ ap (λ (r : Reading). firstThat (sameReading r) rs) (sym (inner-map rs (s .opens))) ∙ ap (λ (k : History). idOf k) (m .read)
+  mirrors-twin =
+      let read : twin s ≡ idOf (historyOf s) = first-twin ∙ ap (λ (r : Reading). firstThat (sameReading r) rs) (sym (inner-map rs (s .opens))) in
+      read ∙ ap (λ (k : History). idOf k) (m .read)
 
   -- ---- the calls that change only the open objects
 
@@ -132,7 +135,8 @@ module _ {s : Session} {h : History} (m : Mirrors s h) where
 
   pub mirrors-drop : Mirrors (withOpens (outer (s .opens)) s) (accept dropCall h)
   unfolding accept
-  mirrors-drop = opens-mirror _ dropCall (rw (others-map rs (s .opens))) (outer-formed (m .open-formed))
+  mirrors-drop =
+      opens-mirror (outer (s .opens)) dropCall (ap (λ (os : List Reading). keepOpens os (historyOf s)) (sym (others-map rs (s .opens)))) (outer-formed (m .open-formed))
 
   -- ---- close: a duplicate is dropped, another object is one more closed one
 

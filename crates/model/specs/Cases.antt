@@ -1,10 +1,13 @@
--- Paper 01, "Counted by hand": the ten cases marked P, on the abstract session, by one claim over a list of them.
+-- Paper 01, "Counted by hand": the ten cases marked P, on the abstract session, by one claim over a list of them; and "Several at once", for link and pack.
 use Prim.Native.Nat.{ℕ}
 use mathlib.Core.List.{List, [], _∷_, _++_}
-use mathlib.Core.Bool.{Bool, true, _&&_}
+use mathlib.Core.Bool.{Bool, true, false, _&&_}
 use lib.Dec.{eqb}
 use Rattle.lists.specs.Lists.{sameList}
-use Rattle.model.specs.Judge.{Limits}
+use Rattle.answer.specs.Number.{number, noOverflow}
+use Rattle.answer.specs.declared.tally.Tally.{Tally}
+use Rattle.model.specs.Table.{overflow}
+use Rattle.model.specs.Judge.{Limits, Verdict, accepted, refused, judgeLink, judgePack}
 use Rattle.model.specs.Session.{Needs, Session, started, tallyOf, SessionCall, startCall, openCall, putCall, linkCall, closeCall, dropCall, tallyCall, step, pack, Call, sessionCall, packCall, afterCall}
 
 -- from a fresh session: the number that each call tells, the id of each close, the four counts at the end, and all tables
@@ -179,15 +182,6 @@ cases =
       counts = 0 ∷ 0 ∷ 0 ∷ 0 ∷ [];
       table = [];
     }
-    -- not the paper's: of a link's refusals the first that applies is told
-    ∷ record {
-      limits = limitsOf 1 0 1;
-      calls = links 3 7 ∷ (leaf (0x64 ∷ []) ++ (opens ∷ links 3 7 ∷ links 2 7 ∷ links 2 0 ∷ []));
-      numbers = 1 ∷ 0 ∷ 0 ∷ 0 ∷ 0 ∷ 3 ∷ 4 ∷ 7 ∷ [];
-      ids = 0 ∷ [];
-      counts = 1 ∷ 0 ∷ 1 ∷ 1 ∷ [];
-      table = [];
-    }
     ∷ record {
       limits = limitsOf 8 8 64;
       calls = tallies ∷ packCall 0 64 0 ∷ [];
@@ -196,4 +190,32 @@ cases =
       counts = 0 ∷ 0 ∷ 0 ∷ 0 ∷ [];
       table = [];
     }
+    ∷ []
+
+-- ---- several refusals at once, of a link and of a pack: in each line those of all the lines below it apply too
+
+abbrev pub numberOf : Verdict → ℕ
+numberOf accepted = 0
+numberOf (refused why) = number why
+
+-- one closed object, and `depth` open ones
+abbrev holding : ℕ → Tally
+holding depth = record { bytes = 1; links = 0; objects = 1; depth = depth }
+
+abbrev pub several : List (List Verdict)
+several =
+    (judgeLink false (limitsOf 1 0 1) (holding 0) 3 1
+    ∷ judgeLink true (limitsOf 1 0 1) (holding 0) 3 1
+    ∷ judgeLink true (limitsOf 1 0 1) (holding 1) 3 1
+    ∷ judgeLink true (limitsOf 1 0 1) (holding 1) 2 1
+    ∷ judgeLink true (limitsOf 1 0 1) (holding 1) 2 0
+    ∷ judgeLink true (limitsOf 1 1 1) (holding 1) 2 0
+    ∷ [])
+    ∷ (judgePack false (holding 1) 1 0 1 0 1 (overflow noOverflow)
+    ∷ judgePack true (holding 1) 1 0 1 0 1 (overflow noOverflow)
+    ∷ judgePack true (holding 1) 1 1 1 0 1 (overflow noOverflow)
+    ∷ judgePack true (holding 0) 1 1 1 0 1 (overflow noOverflow)
+    ∷ judgePack true (holding 0) 0 1 1 0 1 (overflow noOverflow)
+    ∷ judgePack true (holding 0) 0 1 1 1 1 (overflow noOverflow)
+    ∷ [])
     ∷ []

@@ -20,6 +20,7 @@ pub mod limits;
 pub mod lines;
 pub mod orders;
 pub mod pack;
+pub mod printed;
 pub mod reader;
 pub mod reading;
 pub mod session;

@@ -25,15 +25,18 @@ pub fn told(call: &Call, answer: &Answer) -> String {
     }
 }
 
-/// A call with its arguments.
-pub fn arguments(call: &Call) -> String {
+/// A call with its arguments, as a line of the program's input.
+pub fn script(call: &Call) -> String {
     match call {
-        Call::Start { pieces, links } => format!("start pieces={pieces} links={links}"),
-        Call::Put(bytes) if bytes.len() <= 16 => format!("put bytes={}", hex(bytes)),
-        Call::Put(bytes) => format!("put first={} length={}", hex(&bytes[..1]), bytes.len()),
-        Call::Link { width, id } => format!("link width={width} id={id}"),
-        Call::Pack { id, output, work } => format!("pack id={id} output={output} work={work}"),
-        _ => name(call).to_string(),
+        Call::Start { pieces, links } => format!("s {pieces} {links}"),
+        Call::Open => "o".to_string(),
+        Call::Put(bytes) if bytes.len() <= 16 => format!("p {}", hex(bytes)),
+        Call::Put(bytes) => format!("f {} {}", bytes[0], bytes.len()),
+        Call::Link { width, id } => format!("k {width} {id}"),
+        Call::Close => "e".to_string(),
+        Call::Drop => "d".to_string(),
+        Call::Tally => "t".to_string(),
+        Call::Pack { id, output, work } => format!("a {id} {output} {work}"),
     }
 }
 

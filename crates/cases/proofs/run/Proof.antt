@@ -1,24 +1,19 @@
--- Each turn ends past where it began.
+-- Each turn ends past where it began, and lengths stay.
 use Prim.Native.Nat.{_≤_, _-_}
+use mathlib.Core.Path.{_≡_}
 use lib.ListN.{length}
 use borrow.Author.Needs.{needs}
 use Rattle.cases.proofs.run.Statement.{statement}
 use Rattle.cases.proofs.run.Tie as tie
 
 abbrev Inv-loop : tie.InvT-loop
-Inv-loop input n store₀ records₀ lent₀ at₀ store records lent at = n ≤ length input
+Inv-loop input n store₀ records₀ out₀ work₀ lent₀ at₀ store records out work lent at = (n ≤ length input) × (length store ≡ length store₀) × (length records ≡ length records₀) × (length out ≡ length out₀) × (length work ≡ length work₀)
 
 abbrev μ-loop : tie.MeasureT-loop
-μ-loop input n store₀ records₀ lent₀ at₀ store records lent at = n - at
+μ-loop input n store₀ records₀ out₀ work₀ lent₀ at₀ store records out work lent at = n - at
 
 returns : tie.Need-returns Inv-loop μ-loop
 returns c = search needs
-
-slice-aggregate-store : tie.Need-slice-aggregate-store Inv-loop μ-loop
-slice-aggregate-store c = search needs
-
-slice-aggregate-records : tie.Need-slice-aggregate-records Inv-loop μ-loop
-slice-aggregate-records c = search needs
 
 loop-holds : tie.Need-loop-holds Inv-loop μ-loop
 loop-holds c = search needs
@@ -47,6 +42,18 @@ loop-less c = search needs
 loop-again : tie.Need-loop-again Inv-loop μ-loop
 loop-again c = search needs
 
+same-length : tie.Need-same-length Inv-loop μ-loop
+same-length c = search needs
+
+same-length-2 : tie.Need-same-length-2 Inv-loop μ-loop
+same-length-2 c = search needs
+
+same-length-3 : tie.Need-same-length-3 Inv-loop μ-loop
+same-length-3 c = search needs
+
+same-length-4 : tie.Need-same-length-4 Inv-loop μ-loop
+same-length-4 c = search needs
+
 returns-2 : tie.Need-returns-2 Inv-loop μ-loop
 returns-2 c = search needs
 
@@ -57,8 +64,6 @@ run-spec =
     Inv-loop
     μ-loop
     returns
-    slice-aggregate-store
-    slice-aggregate-records
     loop-holds
     line-end-requires
     sub-run-line
@@ -68,4 +73,8 @@ run-spec =
     add-at
     loop-less
     loop-again
+    same-length
+    same-length-2
+    same-length-3
+    same-length-4
     returns-2)

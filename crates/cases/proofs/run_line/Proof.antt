@@ -1,69 +1,27 @@
--- The parts lent are as long as asked for.
-use lib.ListN.{length-take}
+-- The parts that are lent are as long as asked.
 use native.Mathlib.Omega.{arith}
+use lib.ListN.{length-take}
 use borrow.Author.Needs.{needs}
 use Rattle.cases.proofs.run_line.Statement.{statement}
 use Rattle.cases.proofs.run_line.Tie as tie
 
-letter-requires : tie.Need-letter-requires
-letter-requires c κs = search needs
-
-slice-aggregate-text : tie.Need-slice-aggregate-text
-slice-aggregate-text c = search needs
-
-text-requires : tie.Need-text-requires
-text-requires c κs = search needs
-
-sub-text : tie.Need-sub-text
-sub-text c = search needs
-
-part-text-start : tie.Need-part-text-start
-part-text-start c = search needs
-
-part-text-end : tie.Need-part-text-end
-part-text-end c = search needs
-
-text-requires-2 : tie.Need-text-requires-2
-text-requires-2 c κs = search needs
-
-slice-aggregate-text-2 : tie.Need-slice-aggregate-text-2
-slice-aggregate-text-2 c = search needs
-
-text-requires-3 : tie.Need-text-requires-3
-text-requires-3 c κs = search needs
-
 returns : tie.Need-returns
 returns c = search needs
 
-number-requires : tie.Need-number-requires
-number-requires c κs = search needs
+shared-slice-read-if2 : tie.Need-shared-slice-read-if2
+shared-slice-read-if2 c = search needs
 
-number-requires-2 : tie.Need-number-requires-2
-number-requires-2 c κs = search needs
+case-requires : tie.Need-case-requires
+case-requires c κs = search needs
 
 returns-2 : tie.Need-returns-2
 returns-2 c = search needs
 
-returns-3 : tie.Need-returns-3
-returns-3 c = search needs
+shared-slice-read-if3 : tie.Need-shared-slice-read-if3
+shared-slice-read-if3 c = search needs
 
-returns-4 : tie.Need-returns-4
-returns-4 c = search needs
-
-slice-relend-prefix-run-call : tie.Need-slice-relend-prefix-run-call
-slice-relend-prefix-run-call c = search needs
-
-slice-aggregate-run-call : tie.Need-slice-aggregate-run-call
-slice-aggregate-run-call c = simp length-take (omega arith)
-
-slice-relend-prefix-run-call-2 : tie.Need-slice-relend-prefix-run-call-2
-slice-relend-prefix-run-call-2 c = search needs
-
-slice-aggregate-run-call-2 : tie.Need-slice-aggregate-run-call-2
-slice-aggregate-run-call-2 c = simp length-take (omega arith)
-
-run-call-requires : tie.Need-run-call-requires
-run-call-requires c κs = search needs
+lend-requires : tie.Need-lend-requires
+lend-requires c κs = search needs
 
 same-length : tie.Need-same-length
 same-length c = search needs
@@ -71,33 +29,67 @@ same-length c = search needs
 same-length-2 : tie.Need-same-length-2
 same-length-2 c = search needs
 
-returns-5 : tie.Need-returns-5
-returns-5 c = search needs
+returns-3 : tie.Need-returns-3
+returns-3 c = search needs
+
+at-most-requires : tie.Need-at-most-requires
+at-most-requires c κs = search needs
+
+at-most-requires-2 : tie.Need-at-most-requires-2
+at-most-requires-2 c κs = search needs
+
+slice-relend-prefix-call : tie.Need-slice-relend-prefix-call
+slice-relend-prefix-call c = search needs
+
+slice-aggregate-call : tie.Need-slice-aggregate-call
+slice-aggregate-call c = simp length-take (omega arith)
+
+slice-relend-prefix-call-2 : tie.Need-slice-relend-prefix-call-2
+slice-relend-prefix-call-2 c = search needs
+
+slice-aggregate-call-2 : tie.Need-slice-aggregate-call-2
+slice-aggregate-call-2 c = simp length-take (omega arith)
+
+call-requires : tie.Need-call-requires
+call-requires c κs = search needs
+
+same-length-3 : tie.Need-same-length-3
+same-length-3 c = search needs
+
+same-length-4 : tie.Need-same-length-4
+same-length-4 c = search needs
+
+same-length-5 : tie.Need-same-length-5
+same-length-5 c = search needs
+
+same-length-6 : tie.Need-same-length-6
+same-length-6 c = search needs
+
+returns-4 : tie.Need-returns-4
+returns-4 c = search needs
 
 pub run-line-spec : {M : Type 1} → statement M
 run-line-spec =
     tie.close
     (tie.spec
-    letter-requires
-    slice-aggregate-text
-    text-requires
-    sub-text
-    part-text-start
-    part-text-end
-    text-requires-2
-    slice-aggregate-text-2
-    text-requires-3
     returns
-    number-requires
-    number-requires-2
+    shared-slice-read-if2
+    case-requires
     returns-2
-    returns-3
-    returns-4
-    slice-relend-prefix-run-call
-    slice-aggregate-run-call
-    slice-relend-prefix-run-call-2
-    slice-aggregate-run-call-2
-    run-call-requires
+    shared-slice-read-if3
+    lend-requires
     same-length
     same-length-2
-    returns-5)
+    returns-3
+    at-most-requires
+    at-most-requires-2
+    slice-relend-prefix-call
+    slice-aggregate-call
+    slice-relend-prefix-call-2
+    slice-aggregate-call-2
+    call-requires
+    same-length-3
+    same-length-4
+    same-length-5
+    same-length-6
+    returns-4)

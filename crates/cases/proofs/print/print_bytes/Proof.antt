@@ -6,10 +6,10 @@ use Rattle.cases.proofs.print.print_bytes.Statement.{statement}
 use Rattle.cases.proofs.print.print_bytes.Tie as tie
 
 abbrev Inv-loop : tie.InvT-loop
-Inv-loop store i₀ i = i ≤ length store
+Inv-loop bytes i₀ i = i ≤ length bytes
 
 abbrev μ-loop : tie.MeasureT-loop
-μ-loop store i₀ i = length store - i
+μ-loop bytes i₀ i = length bytes - i
 
 loop-holds : tie.Need-loop-holds Inv-loop μ-loop
 loop-holds c = search needs

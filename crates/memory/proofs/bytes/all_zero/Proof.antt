@@ -2,9 +2,9 @@
 use borrow.Author.Needs.{needs}
 use borrow.Author.Tests.{not-true, not-false}
 use mathlib.Core.Path.{_≡_, refl, sym, ap, _∙_}
-use Prim.Native.Nat.{_+_, _-_, _≤_}
+use Prim.Native.Nat.{ℕ, _+_, _-_, _≤_}
 use lib.ListN.{length, drop}
-use Rattle.lists.specs.Lists.{zeros}
+use Rattle.lists.specs.Lists.{part, zeros}
 use Rattle.lists.proofs.Runs.{part-rest}
 use Rattle.lists.proofs.Tests.{zeros-part}
 use Rattle.memory.proofs.bytes.all_zero.Statement.{statement}
@@ -51,7 +51,9 @@ run-zero-requires-2 c κs = search needs
 
 returns-2 : tie.Need-returns-2 Inv-loop μ-loop
 returns-2 c =
-    c .run-zero2 .ensures ∙ ap zeros (part-rest (c .before .before .loop .i) _) ∙ sym (c .before .before .loop .inv .1)
+    let l = c .before .before .loop in
+    let s = c .before .before .before .before .args .s .now in
+    c .run-zero2 .ensures ∙ ap (λ (e : ℕ). zeros (part (l .i) e s)) (search needs) ∙ ap zeros (part-rest (l .i) s) ∙ sym (l .inv .1)
 
 pub all-zero-spec : {M : Type 1} → statement M
 all-zero-spec =

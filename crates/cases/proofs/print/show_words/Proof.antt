@@ -1,20 +1,21 @@
--- The count falls.
+-- The place is within the slice, and what is left of it falls.
 use Prim.Native.Nat.{_≤_, _-_}
+use lib.ListN.{length}
 use borrow.Author.Needs.{needs}
-use Rattle.cases.proofs.print.print_words.Statement.{statement}
-use Rattle.cases.proofs.print.print_words.Tie as tie
+use Rattle.cases.proofs.print.show_words.Statement.{statement}
+use Rattle.cases.proofs.print.show_words.Tie as tie
 
 abbrev Inv-loop : tie.InvT-loop
-Inv-loop records n i₀ i = i ≤ n
+Inv-loop name words i₀ t4 i = i ≤ length words
 
 abbrev μ-loop : tie.MeasureT-loop
-μ-loop records n i₀ i = n - i
+μ-loop name words i₀ t4 i = length words - i
+
+text-requires : tie.Need-text-requires Inv-loop μ-loop
+text-requires c κs = search needs
 
 loop-holds : tie.Need-loop-holds Inv-loop μ-loop
 loop-holds c = search needs
-
-returns : tie.Need-returns Inv-loop μ-loop
-returns c = search needs
 
 mul-print-word : tie.Need-mul-print-word Inv-loop μ-loop
 mul-print-word c = search needs
@@ -34,21 +35,29 @@ loop-less c = search needs
 loop-again : tie.Need-loop-again Inv-loop μ-loop
 loop-again c = search needs
 
-returns-2 : tie.Need-returns-2 Inv-loop μ-loop
-returns-2 c = search needs
+slice-aggregate-text : tie.Need-slice-aggregate-text Inv-loop μ-loop
+slice-aggregate-text c = search needs
 
-pub print-words-spec : {M : Type 1} → statement M
-print-words-spec =
+text-requires-2 : tie.Need-text-requires-2 Inv-loop μ-loop
+text-requires-2 c κs = search needs
+
+returns : tie.Need-returns Inv-loop μ-loop
+returns c = search needs
+
+pub show-words-spec : {M : Type 1} → statement M
+show-words-spec =
     tie.close
     (tie.spec
     Inv-loop
     μ-loop
+    text-requires
     loop-holds
-    returns
     mul-print-word
     shared-slice-read-print-word
     print-word-requires
     add-i
     loop-less
     loop-again
-    returns-2)
+    slice-aggregate-text
+    text-requires-2
+    returns)

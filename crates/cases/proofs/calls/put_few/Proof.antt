@@ -1,15 +1,18 @@
--- The bytes lent are as many as asked for.
-use lib.ListN.{length-take}
+-- The parts that are lent are as long as asked.
 use native.Mathlib.Omega.{arith}
+use lib.ListN.{length-take}
 use borrow.Author.Needs.{needs}
-use Rattle.cases.proofs.put_few.Statement.{statement}
-use Rattle.cases.proofs.put_few.Tie as tie
+use Rattle.cases.proofs.calls.put_few.Statement.{statement}
+use Rattle.cases.proofs.calls.put_few.Tie as tie
 
 unhex-requires : tie.Need-unhex-requires
 unhex-requires c κs = search needs
 
 slice-aggregate-bytes : tie.Need-slice-aggregate-bytes
 slice-aggregate-bytes c = search needs
+
+at-most-requires : tie.Need-at-most-requires
+at-most-requires c κs = search needs
 
 slice-aggregate-tell : tie.Need-slice-aggregate-tell
 slice-aggregate-tell c = search needs
@@ -32,20 +35,17 @@ same-length-2 c = search needs
 returns : tie.Need-returns
 returns c = search needs
 
-returns-2 : tie.Need-returns-2
-returns-2 c = search needs
-
 pub put-few-spec : {M : Type 1} → statement M
 put-few-spec =
     tie.close
     (tie.spec
     unhex-requires
     slice-aggregate-bytes
+    at-most-requires
     slice-aggregate-tell
     slice-aggregate-put
     put-requires
     tell-requires
     same-length
     same-length-2
-    returns
-    returns-2)
+    returns)
