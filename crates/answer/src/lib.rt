@@ -1,6 +1,10 @@
 // What the calls answer with: ids, counts, refusals.
+mod refusals;
 mod tally;
 
+pub use refusals::named_by;
+pub use refusals::nowhere;
+pub use refusals::number_of;
 pub use tally::Tally;
 
 // A closed object, numbered from 0 in the order of closing (paper 01: a piece id).

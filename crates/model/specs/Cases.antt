@@ -30,7 +30,7 @@ numbersOf [] s = []
 numbersOf (sessionCall c ∷ cs) s = step noNeeds c s .told .number ∷ numbersOf cs (step noNeeds c s .after)
 numbersOf (packCall id out work ∷ cs) s = pack noNeeds id out work s .told .number ∷ numbersOf cs s
 
-abbrev idsIn : SessionCall → ℕ → List ℕ
+abbrev pub idsIn : SessionCall → ℕ → List ℕ
 idsIn (startCall m records) i = []
 idsIn openCall i = []
 idsIn (putCall vs) i = []

@@ -75,15 +75,16 @@ falling-all {i = i} f h = let e : i ≡ 0 = omega arith in record { kept = f .ke
 
 -- ---- the start
 
-pub begin-stores : {p g : ℕ} {w w₁ w₂ w₃ : List ℕ} → Filling g p 0 p w w₁ → Filling (g + p) p farAway p w₁ w₂ → Filling (g + p * 2) p 0 p w₂ w₃
-    → (root : ℕ) → root < p → Passes p g (λ s. begun p root) w (set (set w₃ (g + root) 1) (g + p + root) 0)
-begin-stores {p} {g} {w₃ = w₃} s₁ s₂ s₃ root h =
+pub begin-stores : {p g a b c : ℕ} {w w₁ w₂ w₃ : List ℕ} → Filling g p a p w w₁ → Filling (g + p) p b p w₁ w₂ → Filling (g + p * 2) p c p w₂ w₃ → (root : ℕ) → root < p
+    → Passes p g (λ s. record { marks = set (replicate p a) root 1; dists = set (replicate p b) root 0; counts = replicate p c }) w
+    (set (set w₃ (g + root) 1) (g + p + root) 0)
+begin-stores {p} {g} {a} {b} {w₃ = w₃} s₁ s₂ s₃ root h =
     let v : List ℕ = set w₃ (g + root) 1 in
     let filled = kept-then (kept-less (s₁ .kept) g (g + p * 3) (omega arith) (omega arith))
     (kept-then (kept-less (s₂ .kept) g (g + p * 3) (omega arith) (omega arith)) (kept-less (s₃ .kept) g (g + p * 3) (omega arith) (omega arith))) in
     let stored = kept-then (kept-set g (g + p * 3) w₃ (g + root) 1 (omega arith) (omega arith)) (kept-set g (g + p * 3) v (g + p + root) 0 (omega arith) (omega arith)) in
-    let m : region g p w₃ ≡ replicate p 0 = kept-below (s₃ .kept) g p (omega arith) ∙ kept-below (s₂ .kept) g p (omega arith) ∙ s₁ .done in
-    let d : region (g + p) p w₃ ≡ replicate p farAway = kept-below (s₃ .kept) (g + p) p (omega arith) ∙ s₂ .done in
+    let m : region g p w₃ ≡ replicate p a = kept-below (s₃ .kept) g p (omega arith) ∙ kept-below (s₂ .kept) g p (omega arith) ∙ s₁ .done in
+    let d : region (g + p) p w₃ ≡ replicate p b = kept-below (s₃ .kept) (g + p) p (omega arith) ∙ s₂ .done in
     record {
       kept = kept-then filled stored;
       pass =

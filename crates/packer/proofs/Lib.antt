@@ -11,3 +11,4 @@ pub mod Packs
 pub mod Orders
 pub mod Demand
 pub mod Program
+pub mod Cases

@@ -3,3 +3,4 @@ pub mod Pack
 pub mod Write
 pub mod Lay
 pub mod Demand
+pub mod Cases

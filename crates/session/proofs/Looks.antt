@@ -154,16 +154,15 @@ module _ {b w : List ℕ} {base begins own size words ownWords closed i : ℕ} (
     look-next e = record { ground = k .ground; within = omega arith; twinIs = k .twinIs ∙ twin-next b w i (omega (arith, k .ground .closedIs)) e }
 
     -- where closed object i lies
-    pub look-at : {from to first last : ℕ} → to ≡ getD w (beginsAt + i) 0 → from ≡ getD w (beginsAt + i + 1) 0 → last ≡ getD w (begins + i) 0 → first ≡ getD w (begins + i + 1) 0
+    pub look-at : {from to first last : ℕ} → to ≡ getD w (beginsAt + i) 0 → from ≡ getD w (beginsAt + (i + 1)) 0 → last ≡ getD w (begins + i) 0 → first ≡ getD w (begins + (i + 1)) 0
         → Seen b w (closedAt b w i) from to first last
     look-at {from} {to} {first} {last} p q u v =
         let g = k .ground in
         let below : (at : ℕ) → at + (i + 1) - 1 ≡ at + i = λ at. omega arith in
-        let above : (at : ℕ) → at + (i + 1) ≡ at + i + 1 = λ at. omega arith in
         let same : i + 1 - 1 ≡ i = omega arith in
         rw same at
         (closed-seen b w (g .sound .head) (sound-tables (g .sound)) (i + 1) from to first last (omega arith) (omega (arith, g .closedIs))
-        (rw (below beginsAt) p) (rw (above beginsAt) q) (rw (below (linkBeginsAt w), ← g .beginsIs) u) (rw (above (linkBeginsAt w), ← g .beginsIs) v))
+        (rw (below beginsAt) p) q (rw (below (linkBeginsAt w), ← g .beginsIs) u) (rw (← g .beginsIs) v))
 
 -- ---- closed object i against the innermost open one
 

@@ -20,26 +20,24 @@ pub fn find(store: &[u8], records: &[u32], s: State) -> usize
     let own_links = word(records, 68 + (s.depth - 1));
     let words = (s.link_top - own_links) * LINK_WORDS;
     let own_words = base + own_links * LINK_WORDS;
-    let closed = s.closed;
     let mut i = 0;
-    let found = 'next: loop {
-        if closed <= i {
+    'next: loop {
+        if s.closed <= i {
             break i;
         }
-        let from = word(records, 133 + i + 1);
-        let first = word(records, begins + i + 1);
-        if word(records, 133 + i) - from != size {
-            i += 1;
+        let id = i;
+        i += 1;
+        let from = word(records, 133 + i);
+        let first = word(records, begins + i);
+        if word(records, 133 + id) - from != size {
             continue 'next;
         }
-        if (word(records, begins + i) - first) * LINK_WORDS != words {
-            i += 1;
+        if (word(records, begins + id) - first) * LINK_WORDS != words {
             continue 'next;
         }
         let mut j = 0;
         while j < size {
             if store[from + j] != store[own + j] {
-                i += 1;
                 continue 'next;
             }
             j += 1;
@@ -48,12 +46,10 @@ pub fn find(store: &[u8], records: &[u32], s: State) -> usize
         let mut k = 0;
         while k < words {
             if records[from_words + k] != records[own_words + k] {
-                i += 1;
                 continue 'next;
             }
             k += 1;
         }
-        break i;
-    };
-    found
+        break id;
+    }
 }

@@ -47,10 +47,26 @@ impl Stores {
         }
     }
 
+    /// Runs a call; a pack lends an output and a work memory of stale words.
     pub fn run(&mut self, call: &Call) -> Told {
+        let (length, words) = match call {
+            Call::Pack { output, work, .. } => (*output, *work),
+            _ => (0, 0),
+        };
+        let mut output = vec![STALE_BYTE; length];
+        let mut work = vec![STALE_WORK; words];
+        let answer = self.run_lent(call, &mut output, &mut work);
+        Told {
+            answer,
+            output,
+            work,
+        }
+    }
+
+    /// Runs a call; a pack lends these.
+    pub fn run_lent(&mut self, call: &Call, output: &mut [u8], work: &mut [u64]) -> Answer {
         let (bytes, records) = (&mut self.bytes[..], &mut self.records[..]);
-        let (mut output, mut work) = (Vec::new(), Vec::new());
-        let answer = match call {
+        match call {
             Call::Start { pieces, links } => session::start(bytes, records, *pieces, *links),
             Call::Open => session::open(bytes, records),
             Call::Put(added) => session::put(bytes, records, added),
@@ -58,20 +74,7 @@ impl Stores {
             Call::Close => session::close(bytes, records),
             Call::Drop => session::drop(bytes, records),
             Call::Tally => session::tally(bytes, records),
-            Call::Pack {
-                id,
-                output: length,
-                work: words,
-            } => {
-                output = vec![STALE_BYTE; *length];
-                work = vec![STALE_WORK; *words];
-                pack(bytes, records, *id, &mut output, &mut work)
-            }
-        };
-        Told {
-            answer,
-            output,
-            work,
+            Call::Pack { id, .. } => pack(bytes, records, *id, output, work),
         }
     }
 }

@@ -21,6 +21,7 @@ pub mod lines;
 pub mod orders;
 pub mod pack;
 pub mod printed;
+pub mod random;
 pub mod reader;
 pub mod reading;
 pub mod session;

@@ -1,9 +1,10 @@
 //! Helpers shared by the tests.
-#![allow(dead_code)]
+#![allow(dead_code, unused_imports)]
 
 use reference::answer::Answer;
 use reference::call::{Call, Stores, Told};
 use reference::limits;
+pub use reference::random::Numbers;
 
 /// A started session with just as many words as needed.
 pub struct Session {
@@ -78,30 +79,5 @@ pub fn told(number: u64, tally: [u64; 4]) -> Answer {
         objects: tally[2],
         depth: tally[3],
         ..Answer::default()
-    }
-}
-
-/// Numbers that look random and are the same in every run.
-pub struct Numbers(u64);
-
-impl Numbers {
-    pub fn new(seed: u64) -> Numbers {
-        Numbers(seed.wrapping_mul(0x9e37_79b9_7f4a_7c15) | 1)
-    }
-
-    pub fn next(&mut self) -> u64 {
-        self.0 ^= self.0 << 13;
-        self.0 ^= self.0 >> 7;
-        self.0 ^= self.0 << 17;
-        self.0.wrapping_mul(0x2545_f491_4f6c_dd1d) >> 16
-    }
-
-    /// Below a bound.
-    pub fn below(&mut self, bound: usize) -> usize {
-        (self.next() % bound as u64) as usize
-    }
-
-    pub fn one_of<T: Copy>(&mut self, choices: &[T]) -> T {
-        choices[self.below(choices.len())]
     }
 }

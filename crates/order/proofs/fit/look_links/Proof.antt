@@ -69,7 +69,7 @@ returns c =
     let field-at = c .before .before .before .before .field-at .ensures in
     let less = c .before .before .less .ensures in
     let capacity = c .before .capacity .ensures in
-    sym (looking-stop (pre .1) inv test field-at less capacity (c .if1 .taken))
+    sym (looking-stop (pre .1) inv test field-at less capacity (omega (arith, c .if1 .taken)))
 
 add-t : tie.Need-add-t Inv-loop μ-loop
 add-t c = search needs
@@ -85,7 +85,7 @@ loop-again c =
     let field-at = c .before .before .before .before .field-at .ensures in
     let less = c .before .before .less .ensures in
     let capacity = c .before .capacity .ensures in
-    looking-next (pre .1) inv test field-at less capacity (c .if1 .left)
+    looking-next (pre .1) inv test field-at less capacity (omega (arith, c .if1 .left))
 
 returns-2 : tie.Need-returns-2 Inv-loop μ-loop
 returns-2 c = sym (looking-all (c .before .before .before .before .before .pre .1) (c .before .loop .inv) (c .loop-test .left))

@@ -1,5 +1,6 @@
 -- `least_at` meets its contract: the search left gives the place that is promised.
 use Prim.Native.Nat.{_-_}
+use native.Mathlib.Omega.{arith}
 use borrow.Author.Needs.{needs}
 use Rattle.order.proofs.Least.{Least, ready-id, ready-first, least-first, least-better, least-worse, least-done}
 use Rattle.order.proofs.run.least_at.Statement.{statement}
@@ -53,7 +54,7 @@ loop-again c =
     let inv = c .before .before .before .before .loop .inv in
     let test = c .before .before .before .loop-test .taken in
     let key-of2 = c .before .key-of2 .ensures in
-    least-better pre inv test _ key-of2 (c .if1 .taken)
+    least-better pre inv test _ key-of2 (omega (arith, c .if1 .taken))
 
 add-i-2 : tie.Need-add-i-2 Inv-loop μ-loop
 add-i-2 c = search needs
@@ -67,7 +68,7 @@ loop-again-2 c =
     let inv = c .before .before .before .before .loop .inv in
     let test = c .before .before .before .loop-test .taken in
     let key-of2 = c .before .key-of2 .ensures in
-    least-worse pre inv test _ key-of2 (c .if1 .left)
+    least-worse pre inv test _ key-of2 (omega (arith, c .if1 .left))
 
 returns : tie.Need-returns Inv-loop μ-loop
 returns c = (search needs, least-done (c .before .before .before .before .before .pre) (c .before .loop .inv) (c .loop-test .left))

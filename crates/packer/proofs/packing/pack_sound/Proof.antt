@@ -31,13 +31,13 @@ returns : tie.Need-returns
 returns c = pack-little (held (c .before .before .before .before .before .before .read .ensures) (c .before .before .before .before .before .before .before .tally-sound .ensures)) _ _ _ (c .none .ensures) (omega arith)
 
 returns-2 : tie.Need-returns-2
-returns-2 c = pack-open (held (c .before .before .before .before .before .before .before .read .ensures) (c .before .before .before .before .before .before .before .before .tally-sound .ensures)) _ _ _ (omega arith) (c .if2 .taken)
+returns-2 c = pack-open (held (c .before .before .before .before .before .before .before .read .ensures) (c .before .before .before .before .before .before .before .before .tally-sound .ensures)) _ _ _ (omega arith) (omega arith)
 
 returns-3 : tie.Need-returns-3
-returns-3 c = pack-unknown (held (c .before .before .before .before .before .before .before .before .before .read .ensures) (c .before .before .before .before .before .before .before .before .before .before .tally-sound .ensures)) _ _ _ (omega arith) (c .before .before .if2 .left) (c .if3 .taken)
+returns-3 c = pack-unknown (held (c .before .before .before .before .before .before .before .before .before .read .ensures) (c .before .before .before .before .before .before .before .before .before .before .tally-sound .ensures)) _ _ _ (omega arith) (omega arith) (omega arith)
 
 pack-graph-requires : tie.Need-pack-graph-requires
-pack-graph-requires c κs = packable (held (c .before .before .before .before .before .before .before .before .before .before .before .read .ensures) (c .before .before .before .before .before .before .before .before .before .before .before .before .tally-sound .ensures)) (omega arith) (c .before .before .if3 .left)
+pack-graph-requires c κs = packable (held (c .before .before .before .before .before .before .before .before .before .before .before .read .ensures) (c .before .before .before .before .before .before .before .before .before .before .before .before .tally-sound .ensures)) (omega arith) (omega arith)
 
 mul-clear : tie.Need-mul-clear
 mul-clear c = search needs
@@ -58,7 +58,7 @@ same-length-2 : tie.Need-same-length-2
 same-length-2 c = search needs
 
 returns-4 : tie.Need-returns-4
-returns-4 c = pack-done (held (c .before .before .before .before .before .before .before .before .before .before .before .before .before .before .before .before .before .before .before .before .before .before .read .ensures) (c .before .before .before .before .before .before .before .before .before .before .before .before .before .before .before .before .before .before .before .before .before .before .before .tally-sound .ensures)) _ _ _ (omega arith) (c .before .before .before .before .before .before .before .before .before .before .before .before .before .before .before .if2 .left) (c .before .before .before .before .before .before .before .before .before .before .before .before .before .if3 .left) (c .before .before .before .before .before .before .before .before .before .before .pack-graph .ensures) (c .before .before .clear .ensures)
+returns-4 c = pack-done (held (c .before .before .before .before .before .before .before .before .before .before .before .before .before .before .before .before .before .before .before .before .before .before .read .ensures) (c .before .before .before .before .before .before .before .before .before .before .before .before .before .before .before .before .before .before .before .before .before .before .before .tally-sound .ensures)) _ _ _ (omega arith) (omega arith) (omega arith) (c .before .before .before .before .before .before .before .before .before .before .pack-graph .ensures) (c .before .before .clear .ensures)
 
 pub pack-sound-spec : {M : Type 1} → statement M
 pack-sound-spec =

@@ -21,7 +21,7 @@ add-t8 c = search needs
 returns : tie.Need-returns
 returns c =
     let r = c .before .before .before .before .read .ensures in
-    rw (r .topIs, r .lowIs, r .linkTopIs, r .linksIs, r .linkLowIs, r .closedIs, r .depthIs)
+    rw (← r .topIs, ← r .lowIs, ← r .linkTopIs, ← r .linksIs, ← r .linkLowIs, ← r .closedIs, ← r .depthIs)
 
 pub tally-sound-spec : {M : Type 1} → statement M
 tally-sound-spec = tie.close (tie.spec read-requires sub-t5 add-t6 sub-t7 add-t8 returns)

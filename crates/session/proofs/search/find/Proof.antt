@@ -13,34 +13,33 @@ use Rattle.session.proofs.search.find.Statement.{statement}
 use Rattle.session.proofs.search.find.Tie as tie
 
 abbrev Inv-loop : tie.InvT-loop
-Inv-loop store records base begins own size own-links words own-words closed i₀ from first j₀ i j =
-    (i ≡ i₀) × (j ≤ size) × Pair store records i₀ own from size own-words (base + first * linkWords) words j 0
+Inv-loop store records s base begins own size own-links words own-words i id from first j₀ j =
+    (j ≤ size) × Pair store records id own from size own-words (base + first * linkWords) words j 0
 
 abbrev μ-loop : tie.MeasureT-loop
-μ-loop store records base begins own size own-links words own-words closed i₀ from first j₀ i j = size - j
+μ-loop store records s base begins own size own-links words own-words i id from first j₀ j = size - j
 
 abbrev Inv-loop2 : tie.InvT-loop2
-Inv-loop2 store records base begins own size own-links words own-words closed i₀ from first j from-words k₀ i k =
-    (i ≡ i₀) × (k ≤ words) × Pair store records i₀ own from size own-words from-words words j k
+Inv-loop2 store records s base begins own size own-links words own-words i id from first j from-words k₀ k =
+    (k ≤ words) × Pair store records id own from size own-words from-words words j k
 
 abbrev μ-loop2 : tie.MeasureT-loop2
-μ-loop2 store records base begins own size own-links words own-words closed i₀ from first j from-words k₀ i k = words - k
+μ-loop2 store records s base begins own size own-links words own-words i id from first j from-words k₀ k = words - k
 
 abbrev Inv-next : tie.InvT-next
-Inv-next store records base begins own size own-links words own-words closed i₀ i = Look store records base begins own size words own-words closed i
+Inv-next store records s base begins own size own-links words own-words i₀ i = Look store records base begins own size words own-words (s .closed) i
 
 abbrev μ-next : tie.MeasureT-next
-μ-next store records base begins own size own-links words own-words closed i₀ i = closed - i
+μ-next store records s base begins own size own-links words own-words i₀ i = s .closed - i
 
 -- where closed object i lies, its links' end being any number that equals the table's
 seen : {last : ℕ} (c : tie.After-word5 Inv-loop μ-loop Inv-loop2 μ-loop2 Inv-next μ-next)
-    → let n = c .before .before .before .before in
+    → let n = c .before .before .before .before .before in
     let a = n .before .before .before .before .before .before .before .before .before .before .before .args in
     last ≡ getD (a .records .now) (134 + a .s .objects + n .next .i) 0
     → Seen (a .store .now) (a .records .now) (closedAt (a .store .now) (a .records .now) (n .next .i)) (c .before .before .word3 .result) (c .word5 .result) (c .before .word4 .result) last
 seen c e =
-    let f = c .before .before .before in
-    look-at (f .before .next .inv) (f .if1 .left) (c .word5 .ensures .0) (c .before .before .word3 .ensures .0) e (c .before .word4 .ensures .0)
+    look-at (c .before .before .before .before .before .next .inv) (c .before .before .before .if1 .left) (c .word5 .ensures .0) (c .before .before .word3 .ensures .0) e (c .before .word4 .ensures .0)
 
 mul-base : tie.Need-mul-base Inv-loop μ-loop Inv-loop2 μ-loop2 Inv-next μ-next
 mul-base c = search needs
@@ -61,8 +60,7 @@ word-requires : tie.Need-word-requires Inv-loop μ-loop Inv-loop2 μ-loop2 Inv-n
 word-requires c κs = search needs
 
 sub-size : tie.Need-sub-size Inv-loop μ-loop Inv-loop2 μ-loop2 Inv-next μ-next
-sub-size c =
-    let pre = c .before .before .before .before .before .before .before .pre in omega (arith, inner-from (pre .0) (omega arith) (c .before .word .ensures .0))
+sub-size c = omega (arith, inner-from (c .before .before .before .before .before .before .before .pre .0) (omega arith) (c .before .word .ensures .0))
 
 sub-word-2 : tie.Need-sub-word-2 Inv-loop μ-loop Inv-loop2 μ-loop2 Inv-next μ-next
 sub-word-2 c = search needs
@@ -74,8 +72,7 @@ word-requires-2 : tie.Need-word-requires-2 Inv-loop μ-loop Inv-loop2 μ-loop2 I
 word-requires-2 c κs = search needs
 
 sub-words : tie.Need-sub-words Inv-loop μ-loop Inv-loop2 μ-loop2 Inv-next μ-next
-sub-words c =
-    let pre = c .before .before .before .before .before .before .before .before .before .before .pre in omega (arith, inner-first (pre .0) (omega arith) (c .before .word2 .ensures .0))
+sub-words c = omega (arith, inner-first (c .before .before .before .before .before .before .before .before .before .before .pre .0) (omega arith) (c .before .word2 .ensures .0))
 
 mul-words : tie.Need-mul-words Inv-loop μ-loop Inv-loop2 μ-loop2 Inv-next μ-next
 mul-words c = omega (arith, c .before .before .before .before .before .before .before .before .before .before .pre .0)
@@ -87,30 +84,25 @@ add-own-words : tie.Need-add-own-words Inv-loop μ-loop Inv-loop2 μ-loop2 Inv-n
 add-own-words c = omega (arith, c .before .before .before .before .before .before .before .before .before .before .pre .0)
 
 next-holds : tie.Need-next-holds Inv-loop μ-loop Inv-loop2 μ-loop2 Inv-next μ-next
-next-holds c =
-    let pre = c .before .before .before .before .before .before .before .before .before .before .pre in
-    look-first _ _ (pre .0) (pre .1) (c .before .before .before .before .word .ensures .0) (c .before .word2 .ensures .0)
+next-holds c = look-first _ _ (c .before .before .before .before .before .before .before .before .before .before .pre .0) (c .before .before .before .before .before .before .before .before .before .before .pre .1) (c .before .before .before .before .word .ensures .0) (c .before .word2 .ensures .0)
+
+add-i : tie.Need-add-i Inv-loop μ-loop Inv-loop2 μ-loop2 Inv-next μ-next
+add-i c = search needs
 
 add-word-3 : tie.Need-add-word-3 Inv-loop μ-loop Inv-loop2 μ-loop2 Inv-next μ-next
 add-word-3 c = search needs
 
-add-word-4 : tie.Need-add-word-4 Inv-loop μ-loop Inv-loop2 μ-loop2 Inv-next μ-next
-add-word-4 c = search needs
-
 word-requires-3 : tie.Need-word-requires-3 Inv-loop μ-loop Inv-loop2 μ-loop2 Inv-next μ-next
 word-requires-3 c κs = search needs
 
-add-word-5 : tie.Need-add-word-5 Inv-loop μ-loop Inv-loop2 μ-loop2 Inv-next μ-next
-add-word-5 c = search needs
-
-add-word-6 : tie.Need-add-word-6 Inv-loop μ-loop Inv-loop2 μ-loop2 Inv-next μ-next
-add-word-6 c = search needs
+add-word-4 : tie.Need-add-word-4 Inv-loop μ-loop Inv-loop2 μ-loop2 Inv-next μ-next
+add-word-4 c = search needs
 
 word-requires-4 : tie.Need-word-requires-4 Inv-loop μ-loop Inv-loop2 μ-loop2 Inv-next μ-next
 word-requires-4 c κs = search needs
 
-add-word-7 : tie.Need-add-word-7 Inv-loop μ-loop Inv-loop2 μ-loop2 Inv-next μ-next
-add-word-7 c = search needs
+add-word-5 : tie.Need-add-word-5 Inv-loop μ-loop Inv-loop2 μ-loop2 Inv-next μ-next
+add-word-5 c = search needs
 
 word-requires-5 : tie.Need-word-requires-5 Inv-loop μ-loop Inv-loop2 μ-loop2 Inv-next μ-next
 word-requires-5 c κs = search needs
@@ -118,46 +110,32 @@ word-requires-5 c κs = search needs
 sub-if2 : tie.Need-sub-if2 Inv-loop μ-loop Inv-loop2 μ-loop2 Inv-next μ-next
 sub-if2 c = omega (arith, seen c refl)
 
-add-i : tie.Need-add-i Inv-loop μ-loop Inv-loop2 μ-loop2 Inv-next μ-next
-add-i c = search needs
-
 next-less : tie.Need-next-less Inv-loop μ-loop Inv-loop2 μ-loop2 Inv-next μ-next
 next-less c = search needs
 
 next-again : tie.Need-next-again Inv-loop μ-loop Inv-loop2 μ-loop2 Inv-next μ-next
-next-again c =
-    let f = c .before .before .before .before in
-    let n = f .before .next .inv in
-    look-next n (f .if1 .left) (sizes-differ n (seen (c .before) refl) (c .if2 .taken))
+next-again c = let n = c .before .before .before .before .before .before .next .inv in look-next n (c .before .before .before .before .if1 .left) (sizes-differ n (seen ((c .before)) refl) (c .if2 .taken))
 
-add-word-8 : tie.Need-add-word-8 Inv-loop μ-loop Inv-loop2 μ-loop2 Inv-next μ-next
-add-word-8 c = search needs
+add-word-6 : tie.Need-add-word-6 Inv-loop μ-loop Inv-loop2 μ-loop2 Inv-next μ-next
+add-word-6 c = search needs
 
 word-requires-6 : tie.Need-word-requires-6 Inv-loop μ-loop Inv-loop2 μ-loop2 Inv-next μ-next
 word-requires-6 c κs = search needs
 
 sub-if3 : tie.Need-sub-if3 Inv-loop μ-loop Inv-loop2 μ-loop2 Inv-next μ-next
-sub-if3 c = omega (arith, seen (c .before .before) (c .word6 .ensures .0))
+sub-if3 c = omega (arith, seen ((c .before .before)) (c .word6 .ensures .0))
 
 mul-if3 : tie.Need-mul-if3 Inv-loop μ-loop Inv-loop2 μ-loop2 Inv-next μ-next
 mul-if3 c = search needs
-
-add-i-2 : tie.Need-add-i-2 Inv-loop μ-loop Inv-loop2 μ-loop2 Inv-next μ-next
-add-i-2 c = search needs
 
 next-less-2 : tie.Need-next-less-2 Inv-loop μ-loop Inv-loop2 μ-loop2 Inv-next μ-next
 next-less-2 c = search needs
 
 next-again-2 : tie.Need-next-again-2 Inv-loop μ-loop Inv-loop2 μ-loop2 Inv-next μ-next
-next-again-2 c =
-    let f = c .before .before .before .before .before .before in
-    let n = f .before .next .inv in
-    look-next n (f .if1 .left) (counts-differ n (seen (c .before .before .before) (c .before .word6 .ensures .0)) (c .if3 .taken))
+next-again-2 c = let n = c .before .before .before .before .before .before .before .before .next .inv in look-next n (c .before .before .before .before .before .before .if1 .left) (counts-differ n (seen ((c .before .before .before)) (c .before .word6 .ensures .0)) (c .if3 .taken))
 
 loop-holds : tie.Need-loop-holds Inv-loop μ-loop Inv-loop2 μ-loop2 Inv-next μ-next
-loop-holds c =
-    let n = c .before .before .before .before .before .before .before .next .inv in
-    (refl, search needs, pair-first n (seen (c .before .before .before) (c .before .word6 .ensures .0)) (c .before .before .if2 .left) (c .if3 .left))
+loop-holds c = (search needs, pair-first (c .before .before .before .before .before .before .before .before .next .inv) (seen ((c .before .before .before)) (c .before .word6 .ensures .0)) (c .before .before .if2 .left) (c .if3 .left))
 
 add-if4 : tie.Need-add-if4 Inv-loop μ-loop Inv-loop2 μ-loop2 Inv-next μ-next
 add-if4 c = search needs
@@ -173,17 +151,11 @@ shared-slice-read-if4-2 :
     tie.Need-shared-slice-read-if4-2 Inv-loop μ-loop Inv-loop2 μ-loop2 Inv-next μ-next
 shared-slice-read-if4-2 c = search needs
 
-add-i-3 : tie.Need-add-i-3 Inv-loop μ-loop Inv-loop2 μ-loop2 Inv-next μ-next
-add-i-3 c = search needs
-
 next-less-3 : tie.Need-next-less-3 Inv-loop μ-loop Inv-loop2 μ-loop2 Inv-next μ-next
 next-less-3 c = search needs
 
 next-again-3 : tie.Need-next-again-3 Inv-loop μ-loop Inv-loop2 μ-loop2 Inv-next μ-next
-next-again-3 c =
-    let l = c .before .before .before .before .loop .inv in
-    let f = c .before .before .before .before .before .before .before .before .before .before .before in
-    rw (l .0) (look-next (f .before .next .inv) (f .if1 .left) (bytes-differ (l .2) (c .before .before .before .loop-test .taken) (c .if4 .taken)))
+next-again-3 c = look-next (c .before .before .before .before .before .before .before .before .before .before .before .before .before .next .inv) (c .before .before .before .before .before .before .before .before .before .before .before .if1 .left) (bytes-differ (c .before .before .before .before .loop .inv .1) (c .before .before .before .loop-test .taken) (c .if4 .taken))
 
 add-j : tie.Need-add-j Inv-loop μ-loop Inv-loop2 μ-loop2 Inv-next μ-next
 add-j c = search needs
@@ -192,9 +164,7 @@ loop-less : tie.Need-loop-less Inv-loop μ-loop Inv-loop2 μ-loop2 Inv-next μ-n
 loop-less c = search needs
 
 loop-again : tie.Need-loop-again Inv-loop μ-loop Inv-loop2 μ-loop2 Inv-next μ-next
-loop-again c =
-    let l = c .before .before .before .before .loop .inv in
-    (l .0, search needs, pair-byte (l .2) (c .before .before .before .loop-test .taken) (c .if4 .left))
+loop-again c = (search needs, pair-byte (c .before .before .before .before .loop .inv .1) (c .before .before .before .loop-test .taken) (c .if4 .left))
 
 mul-from-words : tie.Need-mul-from-words Inv-loop μ-loop Inv-loop2 μ-loop2 Inv-next μ-next
 mul-from-words c = search needs
@@ -203,7 +173,7 @@ add-from-words : tie.Need-add-from-words Inv-loop μ-loop Inv-loop2 μ-loop2 Inv
 add-from-words c = search needs
 
 loop2-holds : tie.Need-loop2-holds Inv-loop μ-loop Inv-loop2 μ-loop2 Inv-next μ-next
-loop2-holds c = let l = c .before .loop .inv in (refl, search needs, rw (l .0) (l .2))
+loop2-holds c = (search needs, c .before .loop .inv .1)
 
 add-if5 : tie.Need-add-if5 Inv-loop μ-loop Inv-loop2 μ-loop2 Inv-next μ-next
 add-if5 c = search needs
@@ -225,19 +195,11 @@ shared-slice-read-if5-2 :
     tie.Need-shared-slice-read-if5-2 Inv-loop μ-loop Inv-loop2 μ-loop2 Inv-next μ-next
 shared-slice-read-if5-2 c = search needs
 
-add-i-4 : tie.Need-add-i-4 Inv-loop μ-loop Inv-loop2 μ-loop2 Inv-next μ-next
-add-i-4 c = search needs
-
 next-less-4 : tie.Need-next-less-4 Inv-loop μ-loop Inv-loop2 μ-loop2 Inv-next μ-next
-next-less-4 c =
-    omega (arith, c .before .before .before .before .before .before .before .before .before .before .before .before .before .if1 .left, c .before .before .before .before .before .before .loop .inv .0, c .before .before .before .before .loop2 .inv .0)
+next-less-4 c = search needs
 
 next-again-4 : tie.Need-next-again-4 Inv-loop μ-loop Inv-loop2 μ-loop2 Inv-next μ-next
-next-again-4 c =
-    let m = c .before .before .before .before .loop2 .inv in
-    let l = c .before .before .before .before .before .before .loop .inv in
-    let f = c .before .before .before .before .before .before .before .before .before .before .before .before .before in
-    rw (m .0, l .0) (look-next (f .before .next .inv) (f .if1 .left) (rw (l .0) at (words-differ (m .2) (c .before .before .before .loop2-test .taken) (c .if5 .taken))))
+next-again-4 c = look-next (c .before .before .before .before .before .before .before .before .before .before .before .before .before .before .before .next .inv) (c .before .before .before .before .before .before .before .before .before .before .before .before .before .if1 .left) (words-differ (c .before .before .before .before .loop2 .inv .1) (c .before .before .before .loop2-test .taken) (c .if5 .taken))
 
 add-k : tie.Need-add-k Inv-loop μ-loop Inv-loop2 μ-loop2 Inv-next μ-next
 add-k c = search needs
@@ -246,20 +208,13 @@ loop2-less : tie.Need-loop2-less Inv-loop μ-loop Inv-loop2 μ-loop2 Inv-next μ
 loop2-less c = omega (arith, c .before .before .before .loop2-test .taken)
 
 loop2-again : tie.Need-loop2-again Inv-loop μ-loop Inv-loop2 μ-loop2 Inv-next μ-next
-loop2-again c =
-    let m = c .before .before .before .before .loop2 .inv in
-    let t = c .before .before .before .loop2-test .taken in
-    (m .0, omega arith, pair-word (m .2) t (c .if5 .left))
+loop2-again c = (search needs, pair-word (c .before .before .before .before .loop2 .inv .1) (c .before .before .before .loop2-test .taken) (c .if5 .left))
 
 returns : tie.Need-returns Inv-loop μ-loop Inv-loop2 μ-loop2 Inv-next μ-next
-returns c = look-none (c .before .next .inv) (c .if1 .taken)
+returns c = look-none (c .before .before .next .inv) (c .if1 .taken)
 
 returns-2 : tie.Need-returns-2 Inv-loop μ-loop Inv-loop2 μ-loop2 Inv-next μ-next
-returns-2 c =
-    let m = c .before .loop2 .inv in
-    let l = c .before .before .before .loop .inv in
-    let f = c .before .before .before .before .before .before .before .before .before .before in
-    rw (m .0, l .0) (look-here (f .before .next .inv) (f .if1 .left) (rw (l .0) at (pair-same (m .2) (c .before .before .loop-test .left) (c .loop2-test .left))))
+returns-2 c = look-here (c .before .before .before .before .before .before .before .before .before .before .before .before .next .inv) (c .before .before .before .before .before .before .before .before .before .before .if1 .left) (pair-same (c .before .loop2 .inv .1) (c .before .before .loop-test .left) (c .loop2-test .left))
 
 pub find-spec : {M : Type 1} → statement M
 find-spec =
@@ -286,23 +241,20 @@ find-spec =
     mul-own-words
     add-own-words
     next-holds
+    add-i
     add-word-3
-    add-word-4
     word-requires-3
-    add-word-5
-    add-word-6
+    add-word-4
     word-requires-4
-    add-word-7
+    add-word-5
     word-requires-5
     sub-if2
-    add-i
     next-less
     next-again
-    add-word-8
+    add-word-6
     word-requires-6
     sub-if3
     mul-if3
-    add-i-2
     next-less-2
     next-again-2
     loop-holds
@@ -310,7 +262,6 @@ find-spec =
     shared-slice-read-if4
     add-if4-2
     shared-slice-read-if4-2
-    add-i-3
     next-less-3
     next-again-3
     add-j
@@ -325,7 +276,6 @@ find-spec =
     add-if5-2
     mul-if5-2
     shared-slice-read-if5-2
-    add-i-4
     next-less-4
     next-again-4
     add-k

@@ -1,0 +1,48 @@
+// A refusal's number, and the link that it names.
+use crate::ObjectId;
+use crate::Overflow;
+use crate::Refusal;
+ghost use mathlib.Core.Path.{_≡_};
+ghost use Rattle.answer.specs.Number.{number, named, noOverflow};
+
+// Paper 01's number of a refusal.
+pub fn number_of(why: Refusal) -> u64
+    ensures { λ r. ⌜ r ≡ number why ⌝ }
+{
+    match why {
+        Refusal::NothingOpen => 1,
+        Refusal::DepthFull => 2,
+        Refusal::BadWidth => 3,
+        Refusal::NotClosed => 4,
+        Refusal::EmptyObject => 5,
+        Refusal::StoreFull => 6,
+        Refusal::LinksFull => 7,
+        Refusal::ObjectsFull => 8,
+        Refusal::ObjectOpen => 9,
+        Refusal::OutputShort => 10,
+        Refusal::Overflow(_) => 11,
+        Refusal::Unsound => 12,
+        Refusal::OutOfRange => 13,
+    }
+}
+
+// No link is named.
+pub fn nowhere() -> Overflow
+    ensures { λ r. ⌜ r ≡ noOverflow ⌝ }
+{
+    Overflow {
+        parent: ObjectId(0),
+        field: 0,
+        needed: 0,
+    }
+}
+
+// The link that a refusal names: only 11 names one.
+pub fn named_by(why: Refusal) -> Overflow
+    ensures { λ r. ⌜ r ≡ named why ⌝ }
+{
+    let Refusal::Overflow(o) = why else {
+        return nowhere();
+    };
+    o
+}

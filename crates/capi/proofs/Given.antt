@@ -1,0 +1,31 @@
+-- A call's ten numbers beside the stores it left are those of its step.
+use Prim.Native.Nat.{ℕ}
+use mathlib.Core.Path.{_≡_, ap, _∙_}
+use mathlib.Core.List.{List}
+use Rattle.answer.specs.declared.tally.Tally.{Tally}
+use Rattle.answer.specs.declared.Overflow.{Overflow}
+use Rattle.answer.specs.declared.Answer.{Answer}
+use Rattle.answer.specs.declared.Closing.{Closing}
+use Rattle.answer.specs.declared.Packing.{Packing}
+use Rattle.session.specs.Steps.{Out, CloseOut, outcome, closing}
+use Rattle.session.specs.Runs.{toldBy, toldByClose, leftBy, leftByClose}
+use Rattle.packer.specs.Pack.{PackOut, packed}
+use Rattle.packer.specs.Demand.{toldByPack}
+use Rattle.capi.specs.declared.numbers.Numbers.{Numbers}
+use Rattle.capi.specs.Numbers.{numbers, given, givenBy, packGiven, packGivenBy}
+
+pub given-step : {r : Numbers} {b w : List ℕ} {o : Out} (a : Answer) → r ≡ numbers (toldBy a) → outcome a b w ≡ o → given r b w ≡ givenBy (leftBy o)
+given-step {b = b} {w = w} a e f = ap (λ r. given r b w) e ∙ ap (λ o. givenBy (leftBy o)) f
+
+pub given-close : {r : Numbers} {b w : List ℕ} {o : CloseOut} (a : Closing) → r ≡ numbers (toldByClose a) → closing a b w ≡ o → given r b w ≡ givenBy (leftByClose o)
+given-close {b = b} {w = w} a e f = ap (λ r. given r b w) e ∙ ap (λ o. givenBy (leftByClose o)) f
+
+pub given-pack : {r : Numbers} {out work : List ℕ} {o : PackOut} (a : Packing) → r ≡ numbers (toldByPack a) → packed a out work ≡ o → packGiven r out work ≡ packGivenBy o
+given-pack {out = out} {work = work} a e f = ap (λ r. packGiven r out work) e ∙ ap packGivenBy f
+
+-- equal numbers and equal links named, beside the same values, are the same ten
+pub same-numbers : {n m : ℕ} {o u : Overflow} (t : Tally) (i k : ℕ) → n ≡ m → o ≡ u
+    → numbers (record { number = n; tally = t; id = i; length = k; overflow = o }) ≡ numbers (record { number = m; tally = t; id = i; length = k; overflow = u })
+same-numbers {m = m} {o = o} t i k e f =
+    ap (λ n. numbers (record { number = n; tally = t; id = i; length = k; overflow = o })) e
+    ∙ ap (λ o. numbers (record { number = m; tally = t; id = i; length = k; overflow = o })) f

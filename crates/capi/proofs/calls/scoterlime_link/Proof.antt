@@ -1,0 +1,24 @@
+-- The answer of the proved call as ten numbers, beside what it left.
+use borrow.Author.Needs.{needs}
+use Rattle.capi.proofs.Given.{given-step}
+use Rattle.capi.proofs.calls.scoterlime_link.Statement.{statement}
+use Rattle.capi.proofs.calls.scoterlime_link.Tie as tie
+
+link-requires : tie.Need-link-requires
+link-requires c κs = search needs
+
+tell-requires : tie.Need-tell-requires
+tell-requires c κs = search needs
+
+same-length : tie.Need-same-length
+same-length c = search needs
+
+same-length-2 : tie.Need-same-length-2
+same-length-2 c = search needs
+
+returns : tie.Need-returns
+returns c = given-step _ (c .tell .ensures) (c .before .before .before .link .ensures)
+
+pub scoterlime-link-spec : {M : Type 1} → statement M
+scoterlime-link-spec =
+    tie.close (tie.spec link-requires tell-requires same-length same-length-2 returns)

@@ -1,0 +1,50 @@
+-- What a caller in C is told: the ten numbers of an answer, and what the call left in lent memory.
+use Prim.Native.Nat.{ℕ}
+use mathlib.Core.List.{List}
+use Rattle.model.specs.Told.{Told}
+use Rattle.session.specs.Runs.{Left}
+use Rattle.packer.specs.Pack.{PackOut}
+use Rattle.packer.specs.Demand.{toldByPack}
+use Rattle.capi.specs.declared.numbers.Numbers.{Numbers}
+
+-- paper 01's number and values, in the order of the struct
+abbrev pub numbers : Told → Numbers
+numbers t =
+    record {
+      number = t .number;
+      bytes = t .tally .bytes;
+      links = t .tally .links;
+      objects = t .tally .objects;
+      depth = t .tally .depth;
+      id = t .id;
+      length = t .length;
+      parent = t .overflow .parent .0;
+      field = t .overflow .field;
+      needed = t .overflow .needed;
+    }
+
+-- ---- a call on the two stores
+
+pub record Given : Type 0 where
+  pub answer : Numbers
+  pub bytes : List ℕ
+  pub words : List ℕ
+
+abbrev pub given : Numbers → List ℕ → List ℕ → Given
+given r b w = record { answer = r; bytes = b; words = w }
+
+abbrev pub givenBy : Left → Given
+givenBy l = given (numbers (l .told)) (l .stores .bytes) (l .stores .words)
+
+-- ---- pack: the stores stand
+
+pub record PackGiven : Type 0 where
+  pub answer : Numbers
+  pub out : List ℕ
+  pub work : List ℕ
+
+abbrev pub packGiven : Numbers → List ℕ → List ℕ → PackGiven
+packGiven r out work = record { answer = r; out = out; work = work }
+
+abbrev pub packGivenBy : PackOut → PackGiven
+packGivenBy o = packGiven (numbers (toldByPack (o .answer))) (o .out) (o .work)

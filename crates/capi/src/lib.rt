@@ -1,0 +1,20 @@
+// The eight calls and the two needs for callers in C, as include/scoterlime.h declares them.
+//
+// Each is one proved call and its answer turned into ten numbers. None asks anything of the lent memory's contents; that a pointer is good for
+// its length, and that lent areas do not overlap, is the caller's part.
+mod calls;
+mod needs;
+mod numbers;
+mod packing;
+
+pub use calls::scoterlime_close;
+pub use calls::scoterlime_drop;
+pub use calls::scoterlime_link;
+pub use calls::scoterlime_open;
+pub use calls::scoterlime_put;
+pub use calls::scoterlime_start;
+pub use calls::scoterlime_tally;
+pub use needs::scoterlime_records_need;
+pub use needs::scoterlime_work_need;
+pub use numbers::Numbers;
+pub use packing::scoterlime_pack;

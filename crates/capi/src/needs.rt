@@ -1,0 +1,20 @@
+// How many words to lend for given limits.
+ghost use mathlib.Core.Path.{_≡_};
+ghost use Rattle.layout.specs.Words.{need};
+ghost use Rattle.order.specs.Need.{workNeed};
+
+// Of u32, for the record store.
+#[no_mangle]
+pub extern "C" fn scoterlime_records_need(objects: u32, links: u32) -> u64
+    ensures { λ r. ⌜ r ≡ need objects links ⌝ }
+{
+    layout::words::need(objects, links) as u64
+}
+
+// Of u64, for a pack's work memory.
+#[no_mangle]
+pub extern "C" fn scoterlime_work_need(objects: u32, links: u32) -> u64
+    ensures { λ r. ⌜ r ≡ workNeed objects links ⌝ }
+{
+    order::need::work_need(objects, links) as u64
+}

@@ -1,0 +1,20 @@
+// The eighth call.
+use crate::numbers::Numbers;
+use crate::numbers::tell_pack;
+use answer::ObjectId;
+ghost use mathlib.Core.Path.{_≡_};
+ghost use Rattle.packer.specs.Pack.{packStep};
+ghost use Rattle.capi.specs.Numbers.{packGiven, packGivenBy};
+
+#[no_mangle]
+pub extern "C" fn scoterlime_pack(
+    store: &[u8],
+    records: &[u32],
+    id: u32,
+    out: &mut [u8],
+    work: &mut [u64],
+) -> Numbers
+    ensures { λ r. ⌜ packGiven r (now (out .exit)) (now (work .exit)) ≡ packGivenBy (packStep id (now (store .entry)) (now (records .entry)) (now (out .entry)) (now (work .entry))) ⌝ }
+{
+    tell_pack(packer::pack(store, records, ObjectId(id), out, work))
+}

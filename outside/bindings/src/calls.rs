@@ -1,0 +1,61 @@
+//! The calls as the header has them, on slices.
+//!
+//! Each `unsafe` block hands over a slice's pointer and its length; `&mut`
+//! slices overlap nothing else that is lent.
+
+use crate::foreign;
+use crate::Answer;
+
+/// Words of 32 bits that the record store needs.
+pub fn records_need(piece_limit: u32, link_limit: u32) -> usize {
+    unsafe { foreign::scoterlime_records_need(piece_limit, link_limit) as usize }
+}
+
+/// Words of 64 bits that a pack's work memory needs.
+pub fn work_need(piece_limit: u32, link_limit: u32) -> usize {
+    unsafe { foreign::scoterlime_work_need(piece_limit, link_limit) as usize }
+}
+
+pub fn start(store: &mut [u8], records: &mut [u32], piece_limit: u32, link_limit: u32) -> Answer {
+    let (n, r) = (store.len(), records.len());
+    let (store, records) = (store.as_mut_ptr(), records.as_mut_ptr());
+    unsafe { foreign::scoterlime_start(store, n, records, r, piece_limit, link_limit) }
+}
+
+pub fn open(store: &mut [u8], records: &mut [u32]) -> Answer {
+    let (n, r) = (store.len(), records.len());
+    unsafe { foreign::scoterlime_open(store.as_mut_ptr(), n, records.as_mut_ptr(), r) }
+}
+
+pub fn put(store: &mut [u8], records: &mut [u32], bytes: &[u8]) -> Answer {
+    let (n, r) = (store.len(), records.len());
+    let (store, records) = (store.as_mut_ptr(), records.as_mut_ptr());
+    unsafe { foreign::scoterlime_put(store, n, records, r, bytes.as_ptr(), bytes.len()) }
+}
+
+pub fn link(store: &mut [u8], records: &mut [u32], width: u32, id: u32) -> Answer {
+    let (n, r) = (store.len(), records.len());
+    let (store, records) = (store.as_mut_ptr(), records.as_mut_ptr());
+    unsafe { foreign::scoterlime_link(store, n, records, r, width, id) }
+}
+
+pub fn close(store: &mut [u8], records: &mut [u32]) -> Answer {
+    let (n, r) = (store.len(), records.len());
+    unsafe { foreign::scoterlime_close(store.as_mut_ptr(), n, records.as_mut_ptr(), r) }
+}
+
+pub fn drop(store: &mut [u8], records: &mut [u32]) -> Answer {
+    let (n, r) = (store.len(), records.len());
+    unsafe { foreign::scoterlime_drop(store.as_mut_ptr(), n, records.as_mut_ptr(), r) }
+}
+
+pub fn tally(store: &[u8], records: &[u32]) -> Answer {
+    let (n, r) = (store.len(), records.len());
+    unsafe { foreign::scoterlime_tally(store.as_ptr(), n, records.as_ptr(), r) }
+}
+
+pub fn pack(store: &[u8], records: &[u32], id: u32, out: &mut [u8], work: &mut [u64]) -> Answer {
+    let (n, r, o, w) = (store.len(), records.len(), out.len(), work.len());
+    let (out, work) = (out.as_mut_ptr(), work.as_mut_ptr());
+    unsafe { foreign::scoterlime_pack(store.as_ptr(), n, records.as_ptr(), r, id, out, o, work, w) }
+}

@@ -1,0 +1,47 @@
+//! The declarations of include/scoterlime.h.
+
+use crate::Answer;
+
+extern "C" {
+    pub fn scoterlime_records_need(piece_limit: u32, link_limit: u32) -> u64;
+    pub fn scoterlime_work_need(piece_limit: u32, link_limit: u32) -> u64;
+    pub fn scoterlime_start(
+        store: *mut u8,
+        n: usize,
+        records: *mut u32,
+        r: usize,
+        piece_limit: u32,
+        link_limit: u32,
+    ) -> Answer;
+    pub fn scoterlime_open(store: *mut u8, n: usize, records: *mut u32, r: usize) -> Answer;
+    pub fn scoterlime_put(
+        store: *mut u8,
+        n: usize,
+        records: *mut u32,
+        r: usize,
+        bytes: *const u8,
+        k: usize,
+    ) -> Answer;
+    pub fn scoterlime_link(
+        store: *mut u8,
+        n: usize,
+        records: *mut u32,
+        r: usize,
+        width: u32,
+        id: u32,
+    ) -> Answer;
+    pub fn scoterlime_close(store: *mut u8, n: usize, records: *mut u32, r: usize) -> Answer;
+    pub fn scoterlime_drop(store: *mut u8, n: usize, records: *mut u32, r: usize) -> Answer;
+    pub fn scoterlime_tally(store: *const u8, n: usize, records: *const u32, r: usize) -> Answer;
+    pub fn scoterlime_pack(
+        store: *const u8,
+        n: usize,
+        records: *const u32,
+        r: usize,
+        id: u32,
+        out: *mut u8,
+        o: usize,
+        work: *mut u64,
+        w: usize,
+    ) -> Answer;
+}

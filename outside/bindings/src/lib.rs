@@ -1,0 +1,35 @@
+//! The proved packer for Rust.
+//!
+//! [`calls`] has the eight calls on any two lent stores. [`Session`] keeps both
+//! stores borrowed from its start on, so that nothing else writes them between
+//! calls. What include/scoterlime.h asks of callers holds by Rust's slices:
+//! pointers good for their lengths, never null, and no two areas that overlap:
+//!
+//! ```compile_fail
+//! let (mut store, mut records) = ([0; 8], vec![0; bindings::records_need(1, 0)]);
+//! bindings::calls::put(&mut store, &mut records, &store[..1]);
+//! ```
+
+pub mod calls;
+mod foreign;
+mod session;
+
+pub use calls::{records_need, work_need};
+pub use session::{Refused, Session};
+
+/// What a call tells: the struct of include/scoterlime.h. Values that a call
+/// does not have are 0.
+#[repr(C)]
+#[derive(Clone, Copy, Debug, Default, PartialEq, Eq)]
+pub struct Answer {
+    pub number: u64,
+    pub bytes: u64,
+    pub links: u64,
+    pub objects: u64,
+    pub depth: u64,
+    pub id: u64,
+    pub length: u64,
+    pub parent: u64,
+    pub field: u64,
+    pub needed: u64,
+}

@@ -1,0 +1,59 @@
+//! A session through the wrapper: results, refusals, and that it goes on.
+
+use bindings::{records_need, work_need, Answer, Refused, Session};
+
+#[test]
+fn a_refused_call_changes_nothing() {
+    let (mut store, mut records) = ([0xee; 4], vec![0xee; records_need(2, 1)]);
+    let mut session = Session::start(&mut store, &mut records, 2, 1).unwrap();
+    session.open().unwrap();
+    session.put(b"abc").unwrap();
+    let held = session.tally().unwrap();
+    let Err(Refused(refused)) = session.put(b"xy") else {
+        panic!("two bytes have no room");
+    };
+    assert_eq!(refused, Answer { number: 6, ..held });
+    assert_eq!(session.tally(), Ok(held));
+    assert_eq!(session.drop_piece().unwrap().bytes, 0);
+}
+
+#[test]
+fn a_table_is_the_front_of_the_output() {
+    let (mut store, mut records) = ([0; 8], vec![0; records_need(2, 1)]);
+    let mut session = Session::start(&mut store, &mut records, 2, 1).unwrap();
+    session.open().unwrap();
+    session.put(b"x").unwrap();
+    let leaf = session.close().unwrap();
+    session.open().unwrap();
+    session.link(4, leaf).unwrap();
+    let root = session.close().unwrap();
+    let (mut out, mut work) = ([7; 9], vec![7; work_need(2, 1)]);
+    assert_eq!(
+        session.pack(root, &mut out, &mut work),
+        Ok(&[0, 0, 0, 4, b'x'][..])
+    );
+    assert_eq!(out[5..], [7; 4]);
+    assert_eq!(
+        session
+            .pack(root, &mut out[..4], &mut work)
+            .unwrap_err()
+            .0
+            .number,
+        10
+    );
+}
+
+#[test]
+fn a_start_out_of_range_gives_no_session() {
+    let (mut store, mut records) = ([0; 8], vec![0; records_need(1, 0)]);
+    let refused = Session::start(&mut store, &mut records, 0, 0)
+        .err()
+        .unwrap();
+    assert_eq!(
+        refused.0,
+        Answer {
+            number: 13,
+            ..Answer::default()
+        }
+    );
+}

@@ -1,0 +1,183 @@
+//! Random calls, by what the session holds when they are made.
+
+use crate::claims::Claims;
+use reference::call::Call;
+use reference::limits;
+use reference::random::Numbers;
+
+/// Limits, lengths and habits of a run.
+#[derive(Clone, Copy, Debug)]
+pub struct Style {
+    pub pieces: u32,
+    pub links: u32,
+    pub store: usize,
+    /// Words of the record store past its need.
+    pub surplus: usize,
+    /// Lengths of puts.
+    sizes: &'static [usize],
+    /// Of a hundred calls, how many only open.
+    opens: usize,
+    /// Bytes of puts are below this.
+    bytes: usize,
+    widths: &'static [u32],
+}
+
+impl Style {
+    /// Small limits and stores, often nearly full; few different bytes, so
+    /// that duplicates are common.
+    pub fn small(numbers: &mut Numbers) -> Style {
+        Style {
+            pieces: 1 + numbers.below(12) as u32,
+            links: numbers.below(17) as u32,
+            store: 1 + numbers.one_of(&[20, 90, 90, 300]).min(numbers.below(300)),
+            surplus: numbers.below(20),
+            sizes: &[0, 1, 1, 2, 3, 5, 8],
+            opens: 0,
+            bytes: 2,
+            widths: &[2, 2, 2, 2, 2, 4, 4, 4, 3, 258],
+        }
+    }
+
+    /// Stores with long runs of free bytes.
+    pub fn roomy(numbers: &mut Numbers) -> Style {
+        Style {
+            pieces: 30,
+            links: 60,
+            store: 9_000 + numbers.below(9_000),
+            surplus: numbers.below(3),
+            sizes: &[1, 2, 3, 90, 700],
+            ..Style::small(numbers)
+        }
+    }
+
+    /// Many open pieces.
+    pub fn deep(numbers: &mut Numbers) -> Style {
+        Style {
+            pieces: 40,
+            store: 60 + numbers.below(200),
+            opens: 60,
+            ..Style::small(numbers)
+        }
+    }
+
+    /// Sizes near what a field of width 2 holds.
+    pub fn large(numbers: &mut Numbers) -> Style {
+        Style {
+            pieces: 12,
+            links: 30,
+            store: 200_000 + numbers.below(250_000),
+            surplus: 1,
+            sizes: &[2, 6, 30_000, 40_000, 65_525, 65_531, 65_535],
+            opens: 0,
+            bytes: 256,
+            widths: &[2, 2, 2, 2, 2, 2, 2, 4],
+        }
+    }
+
+    pub fn records(&self) -> usize {
+        limits::record_need(self.pieces.into(), self.links.into()) as usize + self.surplus
+    }
+
+    pub fn start(&self) -> Call {
+        Call::Start {
+            pieces: self.pieces,
+            links: self.links,
+        }
+    }
+
+    /// The next call, refused ones included.
+    pub fn next(&self, claims: &Claims, numbers: &mut Numbers) -> Call {
+        if numbers.below(100) < self.opens {
+            return Call::Open;
+        }
+        let depth = claims.history.tally().depth;
+        match (numbers.below(200), depth) {
+            (0..=1, _) => self.restart(numbers),
+            (2..=11, _) => Call::Tally,
+            (12..=27, _) => Call::Open,
+            (28..=35, _) => self.put(claims, numbers),
+            (36..=45, _) => self.link(claims, numbers),
+            (46..=50, _) => Call::Close,
+            (51..=60, _) => Call::Drop,
+            (61..=70, _) => pack(claims, numbers),
+            (71..=140, 0) => Call::Open,
+            (_, 0) => pack(claims, numbers),
+            (71..=100, _) => self.put(claims, numbers),
+            (101..=145, _) => self.link(claims, numbers),
+            (146..=153, _) => Call::Drop,
+            (_, _) => Call::Close,
+        }
+    }
+
+    /// Mostly limits that the record store has room for.
+    fn restart(&self, numbers: &mut Numbers) -> Call {
+        Call::Start {
+            pieces: match numbers.below(8) {
+                0 => numbers.one_of(&[0, 4_096, 4_097, u32::MAX]),
+                1 => self.pieces + 1,
+                _ => 1 + numbers.below(self.pieces as usize) as u32,
+            },
+            links: match numbers.below(8) {
+                0 => numbers.one_of(&[16_384, 16_385, u32::MAX]),
+                _ => numbers.below(self.links as usize + 1) as u32,
+            },
+        }
+    }
+
+    fn link(&self, claims: &Claims, numbers: &mut Numbers) -> Call {
+        Call::Link {
+            width: numbers.one_of(self.widths),
+            id: any_id(claims, numbers),
+        }
+    }
+
+    fn put(&self, claims: &Claims, numbers: &mut Numbers) -> Call {
+        let room = self.store - claims.history.sum();
+        let length = match numbers.below(20) {
+            0 => room,
+            1 if numbers.below(4) == 0 => room + 1,
+            _ => numbers.one_of(self.sizes),
+        };
+        if length > 100 {
+            return Call::Put(vec![numbers.below(self.bytes) as u8; length]);
+        }
+        Call::Put(
+            (0..length)
+                .map(|_| numbers.below(self.bytes) as u8)
+                .collect(),
+        )
+    }
+}
+
+/// Often the last closed piece, which reaches most. Output and work memory are often just long enough or just too short.
+fn pack(claims: &Claims, numbers: &mut Numbers) -> Call {
+    let id = match numbers.below(2) {
+        0 => (claims.history.tally().objects as u32).saturating_sub(1),
+        _ => any_id(claims, numbers),
+    };
+    let length = claims.history.table_length(id).unwrap_or(3) as usize;
+    let output = match numbers.below(8) {
+        0 => length - 1,
+        1 => numbers.below(length + 1),
+        2 => length + numbers.below(9),
+        _ => length,
+    };
+    let need = claims.work_need();
+    let work = match numbers.below(10) {
+        0 => need - 1,
+        1 => numbers.below(need),
+        2 => need + numbers.below(9),
+        _ => need,
+    };
+    Call::Pack { id, output, work }
+}
+
+/// Mostly an id of a closed piece.
+fn any_id(claims: &Claims, numbers: &mut Numbers) -> u32 {
+    let closed = claims.history.tally().objects as usize;
+    match numbers.below(20) {
+        0 => numbers.next() as u32,
+        1 => closed as u32,
+        _ => numbers.below(closed.max(1)) as u32,
+    }
+}

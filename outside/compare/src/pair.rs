@@ -1,0 +1,92 @@
+//! One call on both packers, and all that it tells and leaves compared.
+
+use crate::fenced::Fenced;
+use crate::proved::Proved;
+use reference::call::{Call, Stores};
+use reference::random::Numbers;
+use reference::Answer;
+
+/// How often each number was told.
+pub type Counts = [usize; 14];
+
+pub struct Pair {
+    pub proved: Proved,
+    pub reference: Stores,
+    pub told: Counts,
+    /// The stores before the call, kept to spare memory.
+    before: Stores,
+}
+
+/// What a call told, and a pack's memory before and after it.
+pub struct Outcome {
+    pub answer: Answer,
+    pub output: (Vec<u8>, Vec<u8>),
+    pub work: (Vec<u64>, Vec<u64>),
+}
+
+impl Pair {
+    /// Stores of these lengths that hold anything.
+    pub fn new(store: usize, records: usize, numbers: &mut Numbers) -> Pair {
+        Pair::of(Stores {
+            bytes: (0..store).map(|_| numbers.next() as u8).collect(),
+            records: (0..records).map(|_| numbers.next() as u32).collect(),
+        })
+    }
+
+    pub fn of(stores: Stores) -> Pair {
+        Pair {
+            proved: Proved::new(&stores),
+            before: stores.clone(),
+            reference: stores,
+            told: [0; 14],
+        }
+    }
+
+    /// Runs a call on both; a pack's output and work memory hold anything.
+    pub fn run(&mut self, call: &Call, numbers: &mut Numbers) -> Outcome {
+        let (length, words) = match call {
+            Call::Pack { output, work, .. } => (*output, *work),
+            _ => (0, 0),
+        };
+        let (byte, word) = (numbers.next() as u8, numbers.next() << 13);
+        let output: Vec<u8> = (0..length).map(|i| byte.wrapping_add(i as u8)).collect();
+        let work: Vec<u64> = (0..words as u64).map(|i| word.wrapping_add(i)).collect();
+        let answer = self.run_lent(call, &output, &work);
+        self.told[answer.answer.number as usize] += 1;
+        answer
+    }
+
+    fn run_lent(&mut self, call: &Call, output: &[u8], work: &[u64]) -> Outcome {
+        self.before.bytes.clone_from(&self.reference.bytes);
+        self.before.records.clone_from(&self.reference.records);
+        let (mut out, mut memory) = (output.to_vec(), work.to_vec());
+        let expected = self.reference.run_lent(call, &mut out, &mut memory);
+        let mut proved_out = Fenced::new(output, 0x5f);
+        let mut proved_work = Fenced::new(work, 0x5f5f);
+        let answer = self
+            .proved
+            .run(call, proved_out.inside_mut(), proved_work.inside_mut());
+
+        assert_eq!(answer, expected, "{call:?}");
+        assert!(self.proved.same(&self.reference), "stores after {call:?}");
+        assert!(proved_out.inside() == out, "output after {call:?}");
+        assert!(proved_work.inside() == memory, "work memory after {call:?}");
+        let fences = self.proved.fences_stand() && proved_out.stands() && proved_work.stands();
+        assert!(fences, "a write outside lent memory by {call:?}");
+        if answer.number != 0 {
+            assert!(
+                self.proved.same(&self.before),
+                "{call:?} refused, and stores changed"
+            );
+            assert!(
+                proved_out.inside() == output,
+                "{call:?} refused, and output changed"
+            );
+        }
+        Outcome {
+            answer,
+            output: (output.to_vec(), out),
+            work: (work.to_vec(), memory),
+        }
+    }
+}

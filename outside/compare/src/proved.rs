@@ -1,0 +1,59 @@
+//! The proved packer's memory and calls.
+
+use crate::fenced::Fenced;
+use bindings::calls;
+use reference::call::{Call, Stores};
+use reference::Answer;
+
+pub struct Proved {
+    pub bytes: Fenced<u8>,
+    pub records: Fenced<u32>,
+}
+
+impl Proved {
+    pub fn new(stores: &Stores) -> Proved {
+        Proved {
+            bytes: Fenced::new(&stores.bytes, 0x5f),
+            records: Fenced::new(&stores.records, 0x5f5f_5f5f),
+        }
+    }
+
+    /// Runs a call; a pack lends these.
+    pub fn run(&mut self, call: &Call, output: &mut [u8], work: &mut [u64]) -> Answer {
+        let (bytes, records) = (self.bytes.inside_mut(), self.records.inside_mut());
+        told(match call {
+            Call::Start { pieces, links } => calls::start(bytes, records, *pieces, *links),
+            Call::Open => calls::open(bytes, records),
+            Call::Put(added) => calls::put(bytes, records, added),
+            Call::Link { width, id } => calls::link(bytes, records, *width, *id),
+            Call::Close => calls::close(bytes, records),
+            Call::Drop => calls::drop(bytes, records),
+            Call::Tally => calls::tally(bytes, records),
+            Call::Pack { id, .. } => calls::pack(bytes, records, *id, output, work),
+        })
+    }
+
+    pub fn fences_stand(&self) -> bool {
+        self.bytes.stands() && self.records.stands()
+    }
+
+    /// The same memory as the reference's.
+    pub fn same(&self, stores: &Stores) -> bool {
+        self.bytes.inside() == &stores.bytes[..] && self.records.inside() == &stores.records[..]
+    }
+}
+
+fn told(answer: bindings::Answer) -> Answer {
+    Answer {
+        number: answer.number,
+        bytes: answer.bytes,
+        links: answer.links,
+        objects: answer.objects,
+        depth: answer.depth,
+        id: answer.id,
+        length: answer.length,
+        parent: answer.parent,
+        field: answer.field,
+        needed: answer.needed,
+    }
+}

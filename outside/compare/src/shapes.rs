@@ -1,0 +1,149 @@
+//! Graphs by family, and the calls that build them.
+
+use reference::call::Call;
+use reference::random::Numbers;
+
+/// A piece: links to earlier pieces first or last, and its other bytes.
+#[derive(Clone, Debug)]
+pub struct Piece {
+    pub links: Vec<(u32, usize)>,
+    pub bytes: Vec<u8>,
+    pub links_first: bool,
+}
+
+pub type Graph = Vec<Piece>;
+
+#[derive(Clone, Copy, Debug, PartialEq, Eq)]
+pub enum Family {
+    Chain,
+    Fan,
+    Shared,
+    Lattice,
+    Any,
+}
+
+pub const FAMILIES: [Family; 5] = [
+    Family::Chain,
+    Family::Fan,
+    Family::Shared,
+    Family::Lattice,
+    Family::Any,
+];
+
+/// How widths and sizes are chosen.
+#[derive(Clone, Copy, Debug)]
+pub struct Make {
+    pub pieces: usize,
+    /// Links of a piece, where the family leaves it open.
+    pub fanout: usize,
+    pub widths: &'static [u32],
+    pub sizes: &'static [usize],
+}
+
+impl Make {
+    pub fn graph(&self, family: Family, numbers: &mut Numbers) -> Graph {
+        let count = self.pieces.max(2);
+        (0..count)
+            .map(|id| {
+                let children = self.children(family, id, count, numbers);
+                self.piece(id, &children, numbers)
+            })
+            .collect()
+    }
+
+    fn piece(&self, id: usize, children: &[usize], numbers: &mut Numbers) -> Piece {
+        let size = numbers.one_of(self.sizes);
+        let mut bytes = (id as u16).to_be_bytes().to_vec();
+        bytes.resize(size.max(2), numbers.next() as u8);
+        Piece {
+            links: children
+                .iter()
+                .map(|&child| (numbers.one_of(self.widths), child))
+                .collect(),
+            bytes,
+            links_first: numbers.below(2) == 0,
+        }
+    }
+
+    /// Which earlier pieces the piece links.
+    fn children(
+        &self,
+        family: Family,
+        id: usize,
+        count: usize,
+        numbers: &mut Numbers,
+    ) -> Vec<usize> {
+        let last = id + 1 == count;
+        let fanout = self.fanout.min(id);
+        match family {
+            Family::Chain => (id.saturating_sub(1)..id).collect(),
+            Family::Fan if last => shuffled(0..id, numbers),
+            Family::Fan => Vec::new(),
+            Family::Shared if last => shuffled(count / 3..id, numbers),
+            Family::Shared if id < count / 3 => Vec::new(),
+            Family::Shared => (0..fanout).map(|_| numbers.below(count / 3)).collect(),
+            Family::Lattice => lattice(id, last, count, fanout, numbers),
+            Family::Any => (0..numbers.below(fanout + 1))
+                .map(|_| numbers.below(id))
+                .collect(),
+        }
+    }
+}
+
+/// Rows of pieces, each piece over some of the row below; the root over the top.
+fn lattice(
+    id: usize,
+    last: bool,
+    count: usize,
+    fanout: usize,
+    numbers: &mut Numbers,
+) -> Vec<usize> {
+    let row = (count as f64).sqrt() as usize + 1;
+    let base = id / row * row;
+    if base == 0 {
+        return Vec::new();
+    }
+    if last {
+        return (base - row..id).collect();
+    }
+    (0..fanout)
+        .map(|k| base - row + (id + k * numbers.below(3)) % row)
+        .collect()
+}
+
+fn shuffled(ids: std::ops::Range<usize>, numbers: &mut Numbers) -> Vec<usize> {
+    let mut ids: Vec<usize> = ids.collect();
+    for at in (1..ids.len()).rev() {
+        ids.swap(at, numbers.below(at + 1));
+    }
+    ids
+}
+
+pub fn links(graph: &Graph) -> usize {
+    graph.iter().map(|piece| piece.links.len()).sum()
+}
+
+/// Bytes that all pieces hold, fields included.
+pub fn bytes(graph: &Graph) -> usize {
+    let fields =
+        |piece: &Piece| -> usize { piece.links.iter().map(|&(width, _)| width as usize).sum() };
+    graph
+        .iter()
+        .map(|piece| piece.bytes.len() + fields(piece))
+        .sum()
+}
+
+/// The calls that open, fill and close a piece, by the ids of those before it.
+pub fn calls(piece: &Piece, ids: &[u32]) -> Vec<Call> {
+    let link = |&(width, child): &(u32, usize)| Call::Link {
+        width,
+        id: ids[child],
+    };
+    let mut filling: Vec<Call> = piece.links.iter().map(link).collect();
+    let at = if piece.links_first { filling.len() } else { 0 };
+    filling.insert(at, Call::Put(piece.bytes.clone()));
+    let mut calls = vec![Call::Open];
+    calls.append(&mut filling);
+    calls.push(Call::Close);
+    calls
+}

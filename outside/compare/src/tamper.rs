@@ -1,0 +1,83 @@
+//! Damage to the two stores, by words, by bits and by length.
+
+use reference::call::Stores;
+use reference::random::Numbers;
+
+pub fn damage(stores: &mut Stores, numbers: &mut Numbers) {
+    if stores.bytes.is_empty() || stores.records.len() < 3 {
+        return;
+    }
+    match numbers.below(12) {
+        0 => lengths(stores, numbers),
+        1..=3 => a_byte(stores, numbers),
+        4..=5 => a_header_word(stores, numbers),
+        6..=7 => a_bit(stores, numbers),
+        8 => exchanged(stores, numbers),
+        _ => a_word(stores, numbers),
+    }
+}
+
+/// Mostly near what stood there, so that some damage is hard to see.
+fn near(word: u32, numbers: &mut Numbers) -> u32 {
+    match numbers.below(6) {
+        0 => numbers.next() as u32,
+        1 => numbers.below(8) as u32,
+        2 => u32::MAX - numbers.below(3) as u32,
+        3 => word.wrapping_add(1),
+        4 => word.wrapping_sub(1),
+        _ => word.wrapping_add(numbers.below(9) as u32).wrapping_sub(4),
+    }
+}
+
+fn a_word(stores: &mut Stores, numbers: &mut Numbers) {
+    let at = numbers.below(stores.records.len());
+    stores.records[at] = near(stores.records[at], numbers);
+}
+
+/// Limits, counts and the first entries of the tables.
+fn a_header_word(stores: &mut Stores, numbers: &mut Numbers) {
+    let limit = stores.records[0] as usize;
+    let at = match numbers.below(8) {
+        0 => 133,
+        1 => 134 + limit,
+        2 => 3 + stores.records[2] as usize,
+        3 => 133 + stores.records[1] as usize,
+        4 => 134 + limit + stores.records[1] as usize,
+        at => at - 5,
+    };
+    let at = at.min(stores.records.len() - 1);
+    stores.records[at] = near(stores.records[at], numbers);
+}
+
+fn a_byte(stores: &mut Stores, numbers: &mut Numbers) {
+    let at = numbers.below(stores.bytes.len());
+    stores.bytes[at] = numbers.next() as u8;
+}
+
+fn a_bit(stores: &mut Stores, numbers: &mut Numbers) {
+    if numbers.below(2) == 0 {
+        let at = numbers.below(stores.bytes.len());
+        stores.bytes[at] ^= 1 << numbers.below(8);
+    } else {
+        let at = numbers.below(stores.records.len());
+        stores.records[at] ^= 1 << numbers.below(32);
+    }
+}
+
+fn exchanged(stores: &mut Stores, numbers: &mut Numbers) {
+    let at = numbers.below(stores.records.len() - 1);
+    stores.records.swap(at, at + 1);
+}
+
+/// A store lent shorter or longer than before.
+fn lengths(stores: &mut Stores, numbers: &mut Numbers) {
+    let (n, r) = (stores.bytes.len(), stores.records.len());
+    match numbers.below(6) {
+        0 => stores.bytes.truncate(numbers.below(n)),
+        1 => stores.bytes.truncate(n - 1),
+        2 => stores.bytes.push(0),
+        3 => stores.records.truncate(numbers.below(r)),
+        4 => stores.records.truncate(r - 1),
+        _ => stores.records.push(numbers.next() as u32),
+    }
+}

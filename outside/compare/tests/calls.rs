@@ -1,0 +1,54 @@
+//! Random lists of all eight calls, with the history's claims after each.
+
+use compare::claims::Claims;
+use compare::lists::Style;
+use compare::pair::Counts;
+use compare::{seed, Numbers, Pair};
+
+/// One list: a start on stores that hold anything, then random calls.
+fn run(style: Style, calls: usize, numbers: &mut Numbers) -> Counts {
+    let (store, records) = (style.store, style.records());
+    let mut pair = Pair::new(store, records, numbers);
+    let started = pair.run(&style.start(), numbers);
+    assert_eq!(started.answer.number, 0);
+    let mut claims = Claims::begin(style.pieces, style.links, store, records);
+    for _ in 0..calls {
+        let call = style.next(&claims, numbers);
+        let outcome = pair.run(&call, numbers);
+        claims.check(&call, &outcome);
+    }
+    pair.told
+}
+
+#[test]
+fn random_lists() {
+    let mut numbers = seed::numbers("random lists");
+    let mut told = [0; 14];
+    let mut add = |counts: Counts| {
+        for (sum, count) in told.iter_mut().zip(counts) {
+            *sum += count;
+        }
+    };
+    for _ in 0..1_500 {
+        add(run(Style::small(&mut numbers), 190, &mut numbers));
+    }
+    for _ in 0..60 {
+        add(run(Style::roomy(&mut numbers), 200, &mut numbers));
+    }
+    for _ in 0..80 {
+        add(run(Style::deep(&mut numbers), 250, &mut numbers));
+    }
+    for _ in 0..300 {
+        add(run(Style::large(&mut numbers), 80, &mut numbers));
+    }
+    let calls: usize = told.iter().sum();
+    println!("random lists: {calls} calls");
+    for (number, count) in told.iter().enumerate() {
+        println!("  number {number:2}: {count}");
+    }
+    assert!(calls >= 300_000);
+    assert_eq!(told[12], 0, "a run stays sound");
+    for number in (0..14).filter(|&number| number != 12) {
+        assert!(told[number] >= 20, "number {number} is hardly told");
+    }
+}

@@ -1,0 +1,206 @@
+//! Graphs of many shapes, built by calls on both packers, packed, and read
+//! back by the reader.
+
+use compare::claims::Claims;
+use compare::pair::Counts;
+use compare::shapes::{self, Family, Graph, Make, FAMILIES};
+use compare::{seed, Numbers, Pair};
+use reference::call::Call;
+use reference::graph::Graph as Drawn;
+use reference::limits;
+use reference::orders;
+use reference::sound::sound;
+
+#[derive(Default)]
+struct Seen {
+    graphs: usize,
+    calls: usize,
+    told: Counts,
+    most: (usize, usize),
+    /// Tables that only the distance order made fit.
+    by_distance: usize,
+}
+
+/// A session that has room for the graph and little more.
+fn begin(graph: &Graph, numbers: &mut Numbers) -> (Pair, Claims) {
+    let (pieces, links) = (graph.len() as u32, shapes::links(graph) as u32);
+    let records = limits::record_need(pieces.into(), links.into()) as usize;
+    let store = shapes::bytes(graph) + numbers.below(3);
+    let mut pair = Pair::new(store, records, numbers);
+    assert_eq!(
+        pair.run(&Call::Start { pieces, links }, numbers)
+            .answer
+            .number,
+        0
+    );
+    (pair, Claims::begin(pieces, links, store, records))
+}
+
+fn build(graph: &Graph, pair: &mut Pair, claims: &mut Claims, numbers: &mut Numbers) -> Vec<u32> {
+    let mut ids = Vec::new();
+    for piece in graph {
+        let mut closed = 0;
+        for call in shapes::calls(piece, &ids) {
+            let outcome = pair.run(&call, numbers);
+            claims.check(&call, &outcome);
+            closed = outcome.answer.id;
+        }
+        ids.push(closed as u32);
+    }
+    ids
+}
+
+fn needs_distance(pair: &Pair, root: u32) -> bool {
+    let view = sound(&pair.reference.bytes, &pair.reference.records).expect("sound");
+    let graph = Drawn::of(&view);
+    orders::plain(&graph, root as usize)
+        .overflow(&graph)
+        .is_some()
+}
+
+fn compare(graph: &Graph, numbers: &mut Numbers, seen: &mut Seen) {
+    let (mut pair, mut claims) = begin(graph, numbers);
+    let ids = build(graph, &mut pair, &mut claims, numbers);
+    let last = *ids.last().unwrap();
+    let work = claims.work_need();
+    for (id, less) in [(last, 0), (numbers.one_of(&ids), 0), (last, 1)] {
+        let output = claims.history.table_length(id).unwrap() as usize - less;
+        let call = Call::Pack { id, output, work };
+        let outcome = pair.run(&call, numbers);
+        claims.check(&call, &outcome);
+        let accepted = outcome.answer.number == 0;
+        seen.by_distance += usize::from(accepted && needs_distance(&pair, id));
+    }
+    seen.graphs += 1;
+    seen.calls += pair.told.iter().sum::<usize>();
+    for (sum, count) in seen.told.iter_mut().zip(pair.told) {
+        *sum += count;
+    }
+    seen.most = seen.most.max((graph.len(), shapes::links(graph)));
+}
+
+const SMALL: Make = Make {
+    pieces: 40,
+    fanout: 4,
+    widths: &[2, 2, 4],
+    sizes: &[2, 3, 5, 9, 20],
+};
+
+#[test]
+fn many_graphs() {
+    let mut numbers = seed::numbers("graphs");
+    let mut seen = Seen::default();
+    for turn in 0..1_400 {
+        let pieces = 2 + numbers.below(SMALL.pieces);
+        let graph = Make { pieces, ..SMALL }.graph(FAMILIES[turn % 5], &mut numbers);
+        compare(&graph, &mut numbers, &mut seen);
+    }
+    // Few pieces, of sizes about what a field of width 2 holds.
+    for turn in 0..400 {
+        let make = Make {
+            pieces: 3 + numbers.below(4),
+            fanout: 3,
+            widths: &[2, 2, 2, 2, 4],
+            sizes: &[
+                2, 4, 10, 30_000, 65_525, 65_527, 65_529, 65_531, 65_533, 65_535,
+            ],
+        };
+        compare(
+            &make.graph(FAMILIES[turn % 5], &mut numbers),
+            &mut numbers,
+            &mut seen,
+        );
+    }
+    // One large leaf among small ones: placed last it fits.
+    for _ in 0..200 {
+        let make = Make {
+            pieces: 3 + numbers.below(4),
+            fanout: 3,
+            widths: &[2],
+            sizes: &[2, 4, 10, 10, 65_519, 65_525],
+        };
+        compare(
+            &make.graph(Family::Fan, &mut numbers),
+            &mut numbers,
+            &mut seen,
+        );
+    }
+    // Many pieces whose table is longer than a field of width 2 reaches.
+    for turn in 0..40 {
+        let make = Make {
+            pieces: 150 + numbers.below(150),
+            fanout: 2,
+            widths: &[2, 4, 4, 4],
+            sizes: &[4, 200, 300, 500, 900],
+        };
+        compare(
+            &make.graph(FAMILIES[turn % 5], &mut numbers),
+            &mut numbers,
+            &mut seen,
+        );
+    }
+    report(&seen);
+    assert!(seen.graphs >= 2_000);
+    assert!(seen.told[11] >= 100 && seen.told[10] >= 1_000);
+    assert!(
+        seen.by_distance >= 30,
+        "{} by the distance order",
+        seen.by_distance
+    );
+}
+
+/// As many pieces and links as the limits allow.
+#[test]
+fn graphs_of_all_pieces_and_links() {
+    let mut numbers = seed::numbers("largest graphs");
+    let mut seen = Seen::default();
+    let mixed: &[u32] = &[2, 4, 4, 4];
+    for (family, widths, sizes) in [
+        (Family::Chain, &[2][..], &[2][..]),
+        (Family::Fan, &[4], &[2, 9]),
+        (Family::Shared, mixed, &[2, 9, 20]),
+        (Family::Lattice, mixed, &[2, 9, 20]),
+    ] {
+        let make = Make {
+            pieces: 4_096,
+            fanout: 4,
+            widths,
+            sizes,
+        };
+        let graph = full(make.graph(family, &mut numbers));
+        compare(&graph, &mut numbers, &mut seen);
+    }
+    report(&seen);
+    assert_eq!(seen.most, (4_096, 16_384));
+    assert!(seen.told[11] >= 1);
+}
+
+/// Links added to the root, or taken from it, until there are 16,384.
+fn full(mut graph: Graph) -> Graph {
+    let (root, more) = (
+        graph.len() - 1,
+        16_384_usize.checked_sub(shapes::links(&graph)),
+    );
+    match more {
+        Some(more) => graph[root].links.extend((0..more).map(|k| (4, k % root))),
+        None => {
+            let less = shapes::links(&graph) - 16_384;
+            let kept = graph[root].links.len() - less;
+            graph[root].links.truncate(kept);
+        }
+    }
+    graph
+}
+
+fn report(seen: &Seen) {
+    let (pieces, links) = seen.most;
+    println!(
+        "{} graphs, {} calls, up to {pieces} pieces and {links} links",
+        seen.graphs, seen.calls
+    );
+    println!(
+        "  told 0: {}, 10: {}, 11: {}",
+        seen.told[0], seen.told[10], seen.told[11]
+    );
+    println!("  tables by the distance order alone: {}", seen.by_distance);
+}
