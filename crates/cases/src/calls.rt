@@ -4,13 +4,13 @@ use crate::lines::unhex;
 use crate::memory::at_most;
 use crate::memory::fill_bytes;
 use crate::memory::fill_longs;
-use crate::print::show_bytes;
-use crate::print::show_longs;
-use crate::print::show_words;
-use crate::print::tell;
-use crate::print::tell_close;
-use crate::print::tell_pack;
 use answer::ObjectId;
+use report::show_bytes;
+use report::show_longs;
+use report::show_words;
+use report::tell;
+use report::tell_close;
+use report::tell_pack;
 
 fn small(n: u64) -> u32 {
     (n % 4294967296) as u32

@@ -6,7 +6,6 @@
 mod calls;
 mod lines;
 mod memory;
-mod print;
 
 use calls::call;
 use lines::line_end;
@@ -14,7 +13,7 @@ use lines::number;
 use memory::at_most;
 use memory::fill_bytes;
 use memory::fill_words;
-use print::text;
+use report::text;
 
 // How much of the two stores is lent.
 pub struct Lent {

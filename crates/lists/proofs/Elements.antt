@@ -1,5 +1,5 @@
 -- Lists by their elements: what holds of each one, one more at the end, sums, the first that passes a test.
-use mathlib.Core.Path.{_≡_, refl, sym}
+use mathlib.Core.Path.{_≡_, refl, sym, ap}
 use Prim.Native.Nat.{ℕ, zero, suc, _+_, _≤_, _<_}
 use mathlib.Core.List.{List, [], _∷_, _++_, map}
 use mathlib.Core.Bool.{Bool, true, false}
@@ -51,6 +51,28 @@ module _ {A : Type 0} where
       go true e r i h = absurd (omega arith)
       go false e r zero h = e
       go false e r (suc i) h = r i (omega arith)
+
+  -- the first that passes passes
+  pub first-passes : (test : A → Bool) (l : List A) (d : A) → firstThat test l < length l → test (getD l (firstThat test l) d) ≡ true
+  unfolding firstThat
+  first-passes test [] d h = absurd (omega arith)
+  first-passes test (x ∷ l) d h = go (test x) refl (first-passes test l d) h
+    where
+      go : (b : Bool) → test x ≡ b → (firstThat test l < length l → test (getD l (firstThat test l) d) ≡ true) → pick b 0 (suc (firstThat test l)) < suc (length l)
+          → test (getD (x ∷ l) (pick b 0 (suc (firstThat test l))) d) ≡ true
+      go true e r h = e
+      go false e r h = r (omega arith)
+
+  -- one more behind: where none passes before it, it passes itself
+  pub first-more : (test : A → Bool) (l : List A) (x : A) → (length l ≤ firstThat test l → test x ≡ true) → firstThat test (l ++ (x ∷ [])) ≡ firstThat test l
+  unfolding firstThat
+  first-more test [] x h = rw (h (omega arith))
+  first-more test (y ∷ l) x h = go (test y) (first-more test l x) h
+    where
+      go : (b : Bool) → ((length l ≤ firstThat test l → test x ≡ true) → firstThat test (l ++ (x ∷ [])) ≡ firstThat test l)
+          → (suc (length l) ≤ pick b 0 (suc (firstThat test l)) → test x ≡ true) → pick b 0 (suc (firstThat test (l ++ (x ∷ [])))) ≡ pick b 0 (suc (firstThat test l))
+      go true r h = refl
+      go false r h = ap suc (r (λ k. h (omega arith)))
 
   -- two lists that pass their tests at the same places
   pub first-same : {B : Type 0} (p : A → Bool) (q : B → Bool) (l : List A) (m : List B) (a : A) (b : B) → length l ≡ length m

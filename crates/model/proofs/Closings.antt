@@ -1,43 +1,20 @@
 -- Until the next accepted start a closing tells an id exactly when its object reads as the id's first one did.
 use mathlib.Core.Path.{_≡_, refl, sym, ap, _∙_}
-use Prim.Native.Nat.{ℕ, suc, _≤_, _<_}
+use Prim.Native.Nat.{ℕ, _<_}
 use mathlib.Core.List.{List, [], _∷_, _++_}
 use mathlib.Core.Bool.{Bool, true, false}
 use native.Mathlib.Omega.{arith}
 use borrow.Author.Tests.{ltb-true}
-use lib.ListN.{length, getD, length-append}
+use lib.ListN.{length, length-append}
 use lib.Dec.{ltb}
 use Rattle.lists.specs.Lists.{pick, firstThat}
+use Rattle.lists.proofs.Elements.{first-passes, first-more}
 use Rattle.lists.proofs.Frames.{first-most}
 use Rattle.model.specs.Reading.{Reading, bytes, sameReading, readingAt}
 use Rattle.model.specs.Judge.{Verdict, accepted, refused}
 use Rattle.model.specs.Session.{Needs, SessionCall, startCall, openCall, putCall, linkCall, closeCall, dropCall, tallyCall, Call, sessionCall, packCall}
 use Rattle.model.specs.History.{History, inner, idOf, closes, judged, accept, next, after, Alike}
 use Rattle.model.proofs.SameReading.{reading-equal, reading-self}
-
--- ---- the first that passes
-
-module _ {A : Type 0} (test : A → Bool) where
-  first-passes : (l : List A) (d : A) → firstThat test l < length l → test (getD l (firstThat test l) d) ≡ true
-  unfolding firstThat
-  first-passes [] d h = absurd (omega arith)
-  first-passes (x ∷ l) d h = go (test x) refl (first-passes l d) h
-    where
-      go : (b : Bool) → test x ≡ b → (firstThat test l < length l → test (getD l (firstThat test l) d) ≡ true) → pick b 0 (suc (firstThat test l)) < suc (length l)
-          → test (getD (x ∷ l) (pick b 0 (suc (firstThat test l))) d) ≡ true
-      go true e r h = e
-      go false e r h = r (omega arith)
-
-  -- one more behind: where none passes before it, it passes itself
-  first-more : (l : List A) (x : A) → (length l ≤ firstThat test l → test x ≡ true) → firstThat test (l ++ (x ∷ [])) ≡ firstThat test l
-  unfolding firstThat
-  first-more [] x h = rw (h (omega arith))
-  first-more (y ∷ l) x h = go (test y) (first-more l x) h
-    where
-      go : (b : Bool) → ((length l ≤ firstThat test l → test x ≡ true) → firstThat test (l ++ (x ∷ [])) ≡ firstThat test l)
-          → (suc (length l) ≤ pick b 0 (suc (firstThat test l)) → test x ≡ true) → pick b 0 (suc (firstThat test (l ++ (x ∷ [])))) ≡ pick b 0 (suc (firstThat test l))
-      go true r h = refl
-      go false r h = ap suc (r (λ k. h (omega arith)))
 
 -- ---- ids stay
 

@@ -1,26 +1,21 @@
 -- Closed objects by their entries and by their ids, and links as words of a memory.
-use mathlib.Core.Path.{_≡_, refl, _∙_}
+use mathlib.Core.Path.{_≡_, refl}
 use Prim.Native.Nat.{ℕ, zero, suc, _+_, _*_, _≤_, _<_}
 use native.Mathlib.Nat.{add-zero}
-use mathlib.Core.List.{List, [], _∷_}
+use mathlib.Core.List.{List}
 use mathlib.Core.Bool.{true}
 use native.Mathlib.Omega.{arith}
-use borrow.Author.Tests.{ltb-true}
-use lib.ListN.{length, getD, List·getD-append, List·getD-eq-default}
-use lib.Seq.{getD-at}
-use Rattle.lists.specs.Lists.{holds}
+use lib.ListN.{length, getD, List·getD-eq-default}
 use Rattle.lists.proofs.Runs.{drop-first}
-use Rattle.lists.proofs.Holds.{holds-at}
-use Rattle.lists.proofs.Same.{and-left, and-right}
 use Rattle.regions.specs.Region.{region}
 use Rattle.model.specs.Object.{Link, noObject, objectAt, widthOk}
 use Rattle.layout.specs.Words.{linkLimit, closedCount, beginsAt, linkBeginsAt, linksOf}
-use Rattle.layout.specs.Fields.{fieldTests, fieldsOk}
-use Rattle.layout.specs.Decode.{closedAt, closedTo}
+use Rattle.layout.specs.Fields.{fieldsOk}
+use Rattle.layout.specs.Decode.{closedTo}
 use Rattle.layout.specs.Known.{Sound}
 use Rattle.layout.proofs.Facts.{sound-tables}
 use Rattle.order.specs.Graph.{linkAt, linksFrom}
-use Rattle.session.proofs.Tables.{below-more}
+use Rattle.session.proofs.Fields.{first-field, other-fields}
 use Rattle.session.proofs.Tallies.{length-closed}
 
 -- ---- by its entries of the tables
@@ -42,20 +37,10 @@ entries s i h =
       linkInside = t .linkBegins .under i (omega arith);
     }
 
--- ---- by id
+-- ---- by id, past the last
 
-module _ (b w : List ℕ) where
-  pub closed-in : (n i : ℕ) → i < n → objectAt (closedTo b w n) i ≡ closedAt b w i
-  unfolding closedTo
-  closed-in zero i h = absurd (omega arith)
-  closed-in (suc n) i h =
-      let e = length-closed b w n in
-      below-more (λ i. objectAt (closedTo b w (suc n)) i ≡ closedAt b w i) n
-      (λ i k. List·getD-append (closedTo b w n) (closedAt b w n ∷ []) noObject i (omega arith) ∙ closed-in n i k)
-      (getD-at (closedTo b w n) (closedAt b w n) [] noObject n e) i h
-
-  pub closed-past : (n i : ℕ) → n ≤ i → objectAt (closedTo b w n) i ≡ noObject
-  closed-past n i h = List·getD-eq-default (closedTo b w n) noObject {n = i} (omega (arith, length-closed b w n))
+pub closed-past : (b w : List ℕ) (n i : ℕ) → n ≤ i → objectAt (closedTo b w n) i ≡ noObject
+closed-past b w n i h = List·getD-eq-default (closedTo b w n) noObject {n = i} (omega (arith, length-closed b w n))
 
 -- ---- links in a memory
 
@@ -74,15 +59,12 @@ pub record Right (kids : ℕ) (l : Link) : Type 0 where
   pub lower : l .child < kids
 
 pub fields-right : (kids from : ℕ) (bs f : List ℕ) (k j : ℕ) → fieldsOk kids from bs (linksFrom f j k) ≡ true → (t : ℕ) → t < k → Right kids (linkAt f (j + t * 3))
-unfolding fieldsOk fieldTests linksFrom
+unfolding linksFrom
 fields-right kids from bs f zero j h t b = absurd (omega arith)
 fields-right kids from bs f (suc k) j h zero b =
-    let l = linkAt f j in
-    let at = holds-at (fieldTests kids from bs l) (and-left (holds (fieldTests kids from bs l)) (fieldsOk kids (l .at + l .width) bs (linksFrom f (j + 3) k)) h) in
-    rw (add-zero j) (record { wide = at 1; lower = ltb-true _ _ (at 3) })
+    let r = first-field kids from bs (linkAt f j) (linksFrom f (j + 3) k) h in
+    rw (add-zero j) (record { wide = r .wide; lower = r .known })
 fields-right kids from bs f (suc k) j h (suc t) b =
     let l = linkAt f j in
     let e : j + 3 + t * 3 ≡ j + suc t * 3 = omega arith in
-    rw e at
-    (fields-right kids (l .at + l .width) bs f k (j + 3) (and-right (holds (fieldTests kids from bs l)) (fieldsOk kids (l .at + l .width) bs (linksFrom f (j + 3) k)) h) t
-    (omega arith))
+    rw e at (fields-right kids (l .at + l .width) bs f k (j + 3) (other-fields kids from bs l (linksFrom f (j + 3) k) h) t (omega arith))

@@ -19,7 +19,8 @@ use Rattle.layout.specs.Known.{Sound}
 use Rattle.session.proofs.Tables.{forAll-at}
 use Rattle.order.specs.Graph.{linksFrom, linksAt, linkCount, graphIn, TidyNode}
 use Rattle.packer.specs.Copy.{graphEnd, NodeOf, NodesCopied, LinksCopied, Copied}
-use Rattle.packer.proofs.ClosedObjects.{entries, closed-in, closed-past, links-region, fields-right}
+use Rattle.session.proofs.Tallies.{closed-at}
+use Rattle.packer.proofs.ClosedObjects.{entries, closed-past, links-region, fields-right}
 
 module _ {b w m m₁ m₂ : List ℕ} (s : Sound b w) (room : graphEnd w ≤ length m)
     (ns : NodesCopied (closedCount w) w m m₁) (ls : LinksCopied (linkLimit w * 3) w m₁ m₂) where
@@ -81,7 +82,7 @@ module _ {b w m m₁ m₂ : List ℕ} (s : Sound b w) (room : graphEnd w ≤ len
       go (yes h) = let e = closed-past b w (closedCount w) i h in let t = le-ltb i (closedCount w) h in record { size = rw (t, e); links = rw (t, e) }
       go (no n) =
           let h : i < closedCount w = omega arith in
-          let e = closed-in b w (closedCount w) i h in
+          let e = closed-at b w (closedCount w) i h in
           let t = lt-ltb i (closedCount w) h in
           record {
             size = rw (t, e) (node-words i h .size-is ∙ sym (length-part _ _ b (entries s i h .inside)));

@@ -2,12 +2,10 @@
 use mathlib.Core.Path.{_≡_, refl, ap, _∙_}
 use Prim.Native.Nat.{ℕ}
 use mathlib.Core.List.{List, [], _∷_}
-use native.Mathlib.Nat.{zero-add}
 use native.Mathlib.Omega.{arith}
-use lib.ListN.{length, take, drop as dropped}
-use lib.Seq.{take-at, drop-at}
-use Rattle.lists.specs.Lists.{over}
+use lib.ListN.{length}
 use Rattle.lists.proofs.Over.{length-over}
+use Rattle.lists.proofs.Whole.{over-front, over-rest}
 use Rattle.model.specs.Reading.{Reading}
 use Rattle.model.specs.Judge.{Verdict, accepted, refused}
 use Rattle.model.specs.Told.{Told, doneClose}
@@ -27,14 +25,6 @@ use Rattle.packer.specs.Demand.{LentCall, onStores, pack as packOn, told
 use Rattle.packer.proofs.Packs.{PackFollows, pack-follows}
 
 -- ---- pack: the table in front of the output
-
-over-front : (vs l : List ℕ) → take (length vs) (over 0 vs l) ≡ vs
-unfolding over
-over-front vs l = take-at vs _ (length vs) refl
-
-over-rest : (vs l : List ℕ) → dropped (length vs) (over 0 vs l) ≡ dropped (length vs) l
-unfolding over
-over-rest vs l = drop-at vs _ (length vs) refl ∙ rw zero-add
 
 pack-claim : {h : History} {id : ℕ} {out : List ℕ} {o : PackOut} {m : PackLeft} (s : Stores) → PackFollows out o m → PackAgrees h id m
     → PackClaim h id out (record { told = toldByPack (o .answer); stores = s; out = o .out; work = o .work })

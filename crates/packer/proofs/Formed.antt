@@ -4,41 +4,40 @@ use Prim.Native.Nat.{ℕ, zero, suc, _+_, _<_}
 use mathlib.Core.List.{List, [], _∷_}
 use mathlib.Core.Bool.{true}
 use native.Mathlib.Omega.{arith}
-use borrow.Author.Tests.{leb-true, ltb-true}
 use lib.ListN.{length}
-use Rattle.lists.specs.Lists.{holds}
-use Rattle.lists.proofs.Holds.{holds-at}
 use Rattle.lists.proofs.Same.{and-left, and-right}
 use Rattle.lists.proofs.Elements.{at-snoc}
 use Rattle.model.specs.Bag.{count}
 use Rattle.model.specs.Object.{Link, noObject, objectAt}
-use Rattle.model.specs.Graph.{kidsOf}
-use Rattle.model.specs.Table.{FieldsIn}
+use Rattle.model.specs.Graph.{graphOf, kidsOf}
+use Rattle.model.specs.Table.{FieldsIn, Fields}
 use Rattle.model.proofs.Bags.{Same, same, other, sameOr}
 use Rattle.model.proofs.Growth.{Formed, formed-none}
 use Rattle.layout.specs.Tables.{forAll}
-use Rattle.layout.specs.Fields.{fieldTests, fieldsOk, objectOk}
+use Rattle.layout.specs.Fields.{fieldsOk, objectOk}
 use Rattle.layout.specs.Words.{closedCount}
 use Rattle.layout.specs.Decode.{closedAt, closedTo, decode}
 use Rattle.layout.specs.Sound.{sound}
-use Rattle.layout.proofs.Facts.{sound-facts}
-use Rattle.session.proofs.Tallies.{length-closed}
+use Rattle.layout.specs.Known.{Sound}
+use Rattle.layout.proofs.Facts.{sound-facts, sound-of}
+use Rattle.session.proofs.Fields.{first-field, other-fields}
+use Rattle.session.proofs.Tallies.{length-closed, closed-at}
 
 module _ (kids : ℕ) (bs : List ℕ) where
   fields-in : (from : ℕ) (ls : List Link) → fieldsOk kids from bs ls ≡ true → FieldsIn from (length bs) ls
-  unfolding fieldsOk fieldTests FieldsIn
+  unfolding FieldsIn
   fields-in from [] h = tt
   fields-in from (l ∷ ls) h =
-      let at = holds-at (fieldTests kids from bs l) (and-left (holds (fieldTests kids from bs l)) _ h) in
-      (leb-true _ _ (at 0), leb-true _ _ (at 2), fields-in (l .at + l .width) ls (and-right (holds (fieldTests kids from bs l)) _ h))
+      let f = first-field kids from bs l ls h in
+      (f .after, f .inside, fields-in (l .at + l .width) ls (other-fields kids from bs l ls h))
 
   fields-low : (from : ℕ) (ls : List Link) → fieldsOk kids from bs ls ≡ true → (c : ℕ) → 0 < count c (kidsOf ls) → c < kids
-  unfolding fieldsOk fieldTests kidsOf count
+  unfolding kidsOf count
   fields-low from [] h c k = absurd (omega arith)
-  fields-low from (l ∷ ls) h c k = go (sameOr c (l .child)) (fields-low (l .at + l .width) ls (and-right (holds (fieldTests kids from bs l)) _ h) c)
+  fields-low from (l ∷ ls) h c k = go (sameOr c (l .child)) (fields-low (l .at + l .width) ls (other-fields kids from bs l ls h) c)
     where
       go : Same c (l .child) → (0 < count c (kidsOf ls) → c < kids) → c < kids
-      go (same e _ _) r = rw e (ltb-true _ _ (holds-at (fieldTests kids from bs l) (and-left (holds (fieldTests kids from bs l)) _ h) 3))
+      go (same e _ _) r = rw e (first-field kids from bs l ls h .known)
       go (other _ _ z) r = r (omega arith)
 
 -- the first n
@@ -54,3 +53,13 @@ closed-formed b w (suc n) h i =
 pub sound-formed : (b w : List ℕ) → sound b w ≡ true → (i : ℕ) → Formed i (objectAt (decode b w .closed) i)
 unfolding decode
 sound-formed b w h = closed-formed b w (closedCount w) (sound-facts b w h .closed)
+
+-- each one's bytes and links, and its fields inside them
+
+pub decoded-at : (b w : List ℕ) (i : ℕ) → i < closedCount w → objectAt (decode b w .closed) i ≡ closedAt b w i
+unfolding decode
+decoded-at b w i h = closed-at b w (closedCount w) i h
+
+pub sound-fields : {b w : List ℕ} → Sound b w → Fields (graphOf (decode b w .closed))
+unfolding Fields
+sound-fields {b} {w} s i = sound-formed b w (sound-of s) i .inside

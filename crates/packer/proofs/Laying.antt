@@ -4,8 +4,8 @@ use Prim.Native.Nat.{ℕ, _+_, _*_, _<_}
 use mathlib.Core.List.{List, [], _∷_}
 use mathlib.Core.Bool.{Bool, true, false}
 use native.Mathlib.Omega.{arith}
-use lib.ListN.{getD, take}
-use Rattle.lists.specs.Lists.{total, over}
+use lib.ListN.{getD}
+use Rattle.lists.specs.Lists.{over}
 use Rattle.lists.proofs.Runs.{over-none}
 use Rattle.regions.proofs.Frame.{kept-then}
 use Rattle.answer.specs.declared.Overflow.{Overflow}

@@ -3,7 +3,6 @@ pub mod ClosedObjects
 pub mod CopiedGraph
 pub mod Fields
 pub mod Formed
-pub mod Stored
 pub mod Objects
 pub mod Laying
 pub mod Works

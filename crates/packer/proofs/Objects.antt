@@ -26,7 +26,7 @@ use Rattle.packer.specs.Copy.{graphEnd}
 use Rattle.packer.specs.Write.{Writing, orderIn, tableIn}
 use Rattle.lists.proofs.Overs.{over-then, over-lent}
 use Rattle.model.proofs.Written.{filled-same, count-at, before-at}
-use Rattle.packer.proofs.Stored.{closed-at, sound-fields}
+use Rattle.packer.proofs.Formed.{decoded-at, sound-fields}
 
 -- the sizes and links of the closed objects
 abbrev graphAt : List ℕ → List ℕ → Graph
@@ -128,7 +128,7 @@ module _ {b w m : List ℕ} {s : State} {r room : ℕ} (c : Writing b w s m r ro
     -- its bytes begin at `from` and end at `end`
     module _ {from end : ℕ} (from-is : from ≡ getD w (beginsAt + idAt s m t + 1) 0) (end-is : end ≡ getD w (beginsAt + idAt s m t) 0) where
       bytes-are : part from end b ≡ content (decode b w) (idAt s m t)
-      bytes-are = rw (from-is, end-is) (sym (ap (λ (o : Object). o .bytes) (closed-at b w (idAt s m t) object-known)))
+      bytes-are = rw (from-is, end-is) (sym (ap (λ (o : Object). o .bytes) (decoded-at b w (idAt s m t) object-known)))
 
       pub bytes-order : from ≤ end
       bytes-order = rw (from-is, end-is) (omega (arith, sound-tables (c .read .known) .begins .next (idAt s m t) object-known))

@@ -2,7 +2,7 @@
 use mathlib.Core.Path.{_≡_, refl, sym, ap, _∙_}
 use Prim.Native.Nat.{ℕ, _+_, _*_, _≤_, _<_}
 use mathlib.Core.List.{List, _∷_}
-use mathlib.Core.Bool.{true, false, not}
+use mathlib.Core.Bool.{false, not}
 use native.Mathlib.Omega.{arith}
 use borrow.Author.Tests.{eq-eqb, ne-eqb, le-leb, lt-leb, lt-ltb, le-ltb}
 use lib.ListN.{length, replicate, length-replicate}
@@ -20,7 +20,7 @@ use Rattle.answer.specs.declared.Packing.{Packing}
 use Rattle.answer.specs.declared.Packing.the-variants.{Done, Refused}
 use Rattle.model.specs.Graph.{Graph, graphOf}
 use Rattle.model.specs.Table.{Outcome, placed, overflow, arranged, tableLength}
-use Rattle.model.specs.Judge.{Test, refused, verdict, outputShort, overflows, judgePack}
+use Rattle.model.specs.Judge.{Test, refused, verdict, outputShort, overflows}
 use Rattle.model.specs.Session.{tableIn}
 use Rattle.model.proofs.Refusals.{Comes, this, next, verdict-is}
 use Rattle.layout.specs.Words.{objectLimit, linkLimit, closedCount, openDepth}

@@ -11,7 +11,7 @@ use Rattle.model.specs.Judge.{Limits}
 use Rattle.model.specs.Session.{SessionCall, startCall, openCall, putCall, linkCall, closeCall, dropCall, tallyCall, Call, sessionCall, packCall}
 use Rattle.model.specs.Cases.{Case, idsIn}
 use Rattle.layout.specs.Words.{need}
-use Rattle.session.specs.Runs.{StoreCall, start, open', put, link, close, drop, tally, Stores}
+use Rattle.session.specs.Runs.{StoreCall, start, open', put, link, close, drop, tally}
 use Rattle.order.specs.Need.{workNeed}
 use Rattle.packer.specs.Demand.{LentCall, onStores, pack, Made, run}
 

@@ -17,15 +17,15 @@ use Rattle.layout.specs.Fields.{fieldTests, fieldsOk, objectOk}
 use Rattle.layout.proofs.FieldTests.{field-bytes}
 
 -- what a right field's tests say
-record Field (kids from : ℕ) (bs : List ℕ) (l : Link) : Type 0 where
-  after : from ≤ l .at
-  wide : widthOk (l .width) ≡ true
-  inside : l .at + l .width ≤ length bs
-  known : l .child < kids
-  null : (i : ℕ) → l .at ≤ i → i < l .at + l .width → getD bs i 0 ≡ 0
+pub record Field (kids from : ℕ) (bs : List ℕ) (l : Link) : Type 0 where
+  pub after : from ≤ l .at
+  pub wide : widthOk (l .width) ≡ true
+  pub inside : l .at + l .width ≤ length bs
+  pub known : l .child < kids
+  pub null : (i : ℕ) → l .at ≤ i → i < l .at + l .width → getD bs i 0 ≡ 0
 
 module _ (kids from : ℕ) (bs : List ℕ) (l : Link) (ls : List Link) where
-  first-field : fieldsOk kids from bs (l ∷ ls) ≡ true → Field kids from bs l
+  pub first-field : fieldsOk kids from bs (l ∷ ls) ≡ true → Field kids from bs l
   unfolding fieldsOk fieldTests
   first-field h =
       let at = holds-at (fieldTests kids from bs l) (and-left (holds (fieldTests kids from bs l)) (fieldsOk kids (l .at + l .width) bs ls) h) in
@@ -37,7 +37,7 @@ module _ (kids from : ℕ) (bs : List ℕ) (l : Link) (ls : List Link) where
         null = zeros-in (l .at) (l .at + l .width) bs (at 4);
       }
 
-  other-fields : fieldsOk kids from bs (l ∷ ls) ≡ true → fieldsOk kids (l .at + l .width) bs ls ≡ true
+  pub other-fields : fieldsOk kids from bs (l ∷ ls) ≡ true → fieldsOk kids (l .at + l .width) bs ls ≡ true
   unfolding fieldsOk
   other-fields h = and-right (holds (fieldTests kids from bs l)) (fieldsOk kids (l .at + l .width) bs ls) h
 

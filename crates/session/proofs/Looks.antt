@@ -1,17 +1,16 @@
 -- The look for an equal closed object: id by id, then byte by byte, then by the words of the links.
-use mathlib.Core.Path.{_≡_, refl, sym, ap, _∙_}
-use Prim.Native.Nat.{ℕ, zero, suc, _+_, _-_, _*_, _≤_, _<_}
+use mathlib.Core.Path.{_≡_, refl, sym, _∙_}
+use Prim.Native.Nat.{ℕ, _+_, _-_, _*_, _≤_, _<_}
 use mathlib.Core.List.{List, [], _∷_}
 use mathlib.Core.Bool.{true, false, _&&_, and-false, and-assoc}
 use native.Mathlib.Nat.{zero-add, add-zero}
 use native.Mathlib.Numerals.{add-one}
 use native.Mathlib.Omega.{arith}
-use lib.ListN.{length, drop, getD, length-append, drop-of-length-le}
+use lib.ListN.{length, drop, getD, drop-of-length-le}
 use lib.Seq.{drop-cons}
 use lib.Dec.{eqb}
 use Rattle.lists.specs.Lists.{part, sameList, firstThat}
 use Rattle.lists.proofs.Alike.{alike, length-run, runs-differ, alike-next, alike-not, alike-all}
-use Rattle.lists.proofs.Elements.{at-snoc}
 use Rattle.model.specs.Object.{Object, noObject, sameLink, sameObject}
 use Rattle.layout.specs.Words.{openDepth, closedCount, endsAt, linkEndsAt, beginsAt, linkBeginsAt, linksAt, linkWords, linksOf}
 use Rattle.layout.specs.Decode.{closedAt, closedTo}
@@ -20,22 +19,11 @@ use Rattle.layout.specs.declared.sound.State.{State}
 use Rattle.layout.proofs.Facts.{sound-tables}
 use Rattle.layout.proofs.Objects.{Seen, open-seen, closed-seen}
 use Rattle.session.specs.Steps.{inner, twinIn}
+use Rattle.session.proofs.Tallies.{length-closed, closed-at}
 
 -- ---- the closed objects by id
 
 module _ (b w : List ℕ) where
-  closed-length : (n : ℕ) → length (closedTo b w n) ≡ n
-  unfolding closedTo
-  closed-length zero = refl
-  closed-length (suc n) = simp length-append (omega (arith, closed-length n))
-
-  closed-at : (n i : ℕ) → i < n → getD (closedTo b w n) i noObject ≡ closedAt b w i
-  unfolding closedTo
-  closed-at zero i h = absurd (omega arith)
-  closed-at (suc n) i h =
-      at-snoc (λ k o. k < suc n → o ≡ closedAt b w k) (closedTo b w n) (closedAt b w n) noObject
-      (λ k d m. closed-at n k (omega (arith, closed-length n))) (λ m. ap (closedAt b w) (sym (closed-length n))) i h
-
   -- the answer, once the ids below i are looked at
   unfoldable pub twinFrom : ℕ → ℕ
   twinFrom i = i + firstThat (sameObject (inner b w)) (drop i (closedTo b w (closedCount w)))
@@ -47,13 +35,13 @@ module _ (b w : List ℕ) where
   module _ (i : ℕ) where
     twin-none : closedCount w ≤ i → twinFrom i ≡ i
     unfolding twinFrom firstThat
-    twin-none h = rw (drop-of-length-le (closedTo b w (closedCount w)) {i = i} (omega (arith, closed-length (closedCount w))), add-zero)
+    twin-none h = rw (drop-of-length-le (closedTo b w (closedCount w)) {i = i} (omega (arith, length-closed b w (closedCount w))), add-zero)
 
     module _ (h : i < closedCount w) where
       closed-left : drop i (closedTo b w (closedCount w)) ≡ closedAt b w i ∷ drop (i + 1) (closedTo b w (closedCount w))
       closed-left =
-          let l : i < length (closedTo b w (closedCount w)) = omega (arith, closed-length (closedCount w)) in
-          rw (add-one i, drop-cons (closedTo b w (closedCount w)) i noObject l, closed-at (closedCount w) i h)
+          let l : i < length (closedTo b w (closedCount w)) = omega (arith, length-closed b w (closedCount w)) in
+          rw (add-one i, drop-cons (closedTo b w (closedCount w)) i noObject l, closed-at b w (closedCount w) i h)
 
       twin-here : sameObject (inner b w) (closedAt b w i) ≡ true → twinFrom i ≡ i
       unfolding twinFrom firstThat

@@ -8,9 +8,9 @@ use native.Mathlib.Omega.{arith}
 use lib.ListN.{length, getD, length-append}
 use Rattle.lists.specs.Lists.{part, total}
 use Rattle.lists.proofs.Runs.{length-part}
-use Rattle.lists.proofs.Elements.{total-append}
+use Rattle.lists.proofs.Elements.{total-append, at-snoc}
 use Rattle.answer.specs.declared.tally.Tally.{Tally}
-use Rattle.model.specs.Object.{Object, sizeOf, linkCount}
+use Rattle.model.specs.Object.{Object, noObject, objectAt, sizeOf, linkCount}
 use Rattle.model.specs.Session.{tallyOf}
 use Rattle.layout.specs.Words.{closedCount, openDepth, endsAt, linkEndsAt, beginsAt, linkBeginsAt, linksAt, linkWords, linkLimit, limitsIn, linkArea}
 use Rattle.layout.specs.Decode.{linksFrom, openAt, closedAt, opensTo, closedTo, decode}
@@ -32,6 +32,14 @@ module _ (b w : List ℕ) where
   unfolding closedTo
   length-closed zero = refl
   length-closed (suc n) = omega (arith, length-append (closedTo b w n) (closedAt b w n ∷ []), length-closed n)
+
+  -- the closed ones by id
+  pub closed-at : (n i : ℕ) → i < n → objectAt (closedTo b w n) i ≡ closedAt b w i
+  unfolding closedTo
+  closed-at zero i h = absurd (omega arith)
+  closed-at (suc n) i h =
+      at-snoc (λ k o. k < suc n → o ≡ closedAt b w k) (closedTo b w n) (closedAt b w n) noObject
+      (λ k d m. closed-at n k (omega (arith, length-closed n))) (λ m. ap (closedAt b w) (sym (length-closed n))) i h
 
   -- f of an object is what lies between its two entries of the table at index `base`
   module _ (f : Object → ℕ) (base : ℕ) where

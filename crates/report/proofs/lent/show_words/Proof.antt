@@ -2,8 +2,8 @@
 use Prim.Native.Nat.{_≤_, _-_}
 use lib.ListN.{length}
 use borrow.Author.Needs.{needs}
-use Rattle.cases.proofs.print.show_words.Statement.{statement}
-use Rattle.cases.proofs.print.show_words.Tie as tie
+use Rattle.report.proofs.lent.show_words.Statement.{statement}
+use Rattle.report.proofs.lent.show_words.Tie as tie
 
 abbrev Inv-loop : tie.InvT-loop
 Inv-loop name words i₀ t4 i = i ≤ length words

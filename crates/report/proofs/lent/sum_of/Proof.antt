@@ -2,23 +2,23 @@
 use Prim.Native.Nat.{_≤_, _-_}
 use lib.ListN.{length}
 use borrow.Author.Needs.{needs}
-use Rattle.cases.proofs.print.print_bytes.Statement.{statement}
-use Rattle.cases.proofs.print.print_bytes.Tie as tie
+use Rattle.report.proofs.lent.sum_of.Statement.{statement}
+use Rattle.report.proofs.lent.sum_of.Tie as tie
 
 abbrev Inv-loop : tie.InvT-loop
-Inv-loop bytes i₀ i = i ≤ length bytes
+Inv-loop bytes sum₀ i₀ sum i = i ≤ length bytes
 
 abbrev μ-loop : tie.MeasureT-loop
-μ-loop bytes i₀ i = length bytes - i
+μ-loop bytes sum₀ i₀ sum i = length bytes - i
 
 loop-holds : tie.Need-loop-holds Inv-loop μ-loop
 loop-holds c = search needs
 
-shared-slice-read-print-byte : tie.Need-shared-slice-read-print-byte Inv-loop μ-loop
-shared-slice-read-print-byte c = search needs
+shared-slice-read-next-sum : tie.Need-shared-slice-read-next-sum Inv-loop μ-loop
+shared-slice-read-next-sum c = search needs
 
-print-byte-requires : tie.Need-print-byte-requires Inv-loop μ-loop
-print-byte-requires c κs = search needs
+next-sum-requires : tie.Need-next-sum-requires Inv-loop μ-loop
+next-sum-requires c κs = search needs
 
 add-i : tie.Need-add-i Inv-loop μ-loop
 add-i c = search needs
@@ -32,15 +32,15 @@ loop-again c = search needs
 returns : tie.Need-returns Inv-loop μ-loop
 returns c = search needs
 
-pub print-bytes-spec : {M : Type 1} → statement M
-print-bytes-spec =
+pub sum-of-spec : {M : Type 1} → statement M
+sum-of-spec =
     tie.close
     (tie.spec
     Inv-loop
     μ-loop
     loop-holds
-    shared-slice-read-print-byte
-    print-byte-requires
+    shared-slice-read-next-sum
+    next-sum-requires
     add-i
     loop-less
     loop-again

@@ -1,0 +1,23 @@
+// What the calls tell, and lent memory, as text on standard output.
+//
+// No function asks anything of its caller. What can't be written is lost, and nothing is told of it.
+mod calls;
+mod lent;
+mod print;
+mod refusals;
+mod words;
+
+pub use calls::tell;
+pub use calls::tell_close;
+pub use calls::tell_pack;
+pub use lent::show_bytes;
+pub use lent::show_longs;
+pub use lent::show_words;
+pub use print::column;
+pub use print::hex;
+pub use print::repeat;
+pub use print::text;
+pub use print::value;
+pub use words::say;
+pub use words::say_close;
+pub use words::say_pack;
