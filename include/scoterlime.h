@@ -1,4 +1,4 @@
-/* Scoterlime: packs pieces of an OpenType layout table, equal pieces once, with the offsets between them filled in.
+/* Scoterlime: packs the objects of an OpenType layout table, equal ones once, with the offsets between them filled in.
  *
  * A session lives in two areas that the caller lends to every call: a byte store and a record store. No call keeps a pointer, and there is no
  * other state: two sessions in different areas know nothing of each other.
@@ -28,20 +28,20 @@ extern "C" {
 /* What a call tells. number is 0 for a call that was carried out, or the reason for which it was refused:
  *
  *    1  nothing is open
- *    2  64 pieces are open
+ *    2  64 objects are open
  *    3  the width is not 2 or 4
- *    4  the id is not a closed piece's
- *    5  the open piece has no bytes
+ *    4  the id is not a closed object's
+ *    5  the open object has no bytes
  *    6  the byte store has no room for the new bytes
  *    7  the held links are at the link limit
- *    8  a new piece, and the piece limit is reached
- *    9  a piece is open
+ *    8  a new object, and piece_limit is reached
+ *    9  an object is open
  *   10  the output is shorter than the table
  *   11  in neither order every offset fits its field
  *   12  the stores do not hold a sound session
  *   13  a limit or a lent area is outside its range
  *
- * Beside 0 to 11 stand the counts after the call: bytes and links held by open and closed pieces, closed pieces (objects), open pieces (depth).
+ * Beside 0 to 11 stand the counts after the call: bytes and links held by open and closed objects, and how many objects are closed (objects) and open (depth).
  * Beside 12 and 13 they are 0. Each other value is 0 but where a call below names it. */
 typedef struct {
     uint64_t number;
@@ -49,10 +49,10 @@ typedef struct {
     uint64_t links;
     uint64_t objects;
     uint64_t depth;
-    uint64_t id;     /* close: the closed piece's id */
+    uint64_t id;     /* close: the closed object's id */
     uint64_t length; /* pack: the table's length in bytes */
-    uint64_t parent; /* pack's 11: the id of the piece that has the field, */
-    uint64_t field;  /* the field's place in that piece, */
+    uint64_t parent; /* pack's 11: the id of the object that has the field, */
+    uint64_t field;  /* the field's place in that object, */
     uint64_t needed; /* and the offset that does not fit it */
 } scoterlime_answer;
 
@@ -66,24 +66,24 @@ uint64_t scoterlime_work_need(uint32_t piece_limit, uint32_t link_limit);
  * Refused: 13 (piece_limit is not 1 to 4,096, link_limit is over 16,384, n is not 1 to 1,048,576, or r is short of the need). */
 scoterlime_answer scoterlime_start(uint8_t *store, size_t n, uint32_t *records, size_t r, uint32_t piece_limit, uint32_t link_limit);
 
-/* Opens a piece of no bytes, inside the innermost open one if there is one.
+/* Opens an object of no bytes, inside the innermost open one if there is one.
  * Refused: 12, 2. */
 scoterlime_answer scoterlime_open(uint8_t *store, size_t n, uint32_t *records, size_t r);
 
-/* Appends k bytes to the innermost open piece.
+/* Appends k bytes to the innermost open object.
  * Refused: 12, 1, 6. */
 scoterlime_answer scoterlime_put(uint8_t *store, size_t n, uint32_t *records, size_t r, const uint8_t *bytes, size_t k);
 
-/* Appends an offset field of width 2 or 4 to the innermost open piece; pack fills it with the way to the closed piece id.
+/* Appends an offset field of width 2 or 4 to the innermost open object; pack fills it with the way to the closed object id.
  * Refused: 12, 1, 3, 4, 7, 6. */
 scoterlime_answer scoterlime_link(uint8_t *store, size_t n, uint32_t *records, size_t r, uint32_t width, uint32_t id);
 
-/* Closes the innermost open piece and tells its id: that of the closed piece with the same bytes and links if there is one, else the next,
+/* Closes the innermost open object and tells its id: that of the closed object with the same bytes and links if there is one, else the next,
  * counted from 0.
  * Refused: 12, 1, 5, 8. */
 scoterlime_answer scoterlime_close(uint8_t *store, size_t n, uint32_t *records, size_t r);
 
-/* Forgets the innermost open piece.
+/* Forgets the innermost open object.
  * Refused: 12, 1. */
 scoterlime_answer scoterlime_drop(uint8_t *store, size_t n, uint32_t *records, size_t r);
 
@@ -91,7 +91,7 @@ scoterlime_answer scoterlime_drop(uint8_t *store, size_t n, uint32_t *records, s
  * Refused: 12. */
 scoterlime_answer scoterlime_tally(const uint8_t *store, size_t n, const uint32_t *records, size_t r);
 
-/* Writes the table of the closed piece id, itself first and then all that it reaches, to the first length bytes at out; the other bytes there stand.
+/* Writes the table of the closed object id, itself first and then all that it reaches, to the first length bytes at out; the other bytes there stand.
  * What work held does not matter; its needed words are 0 afterwards. The session does not change.
  * Refused: 12, 13 (w is short of the need), 9, 4, 10, 11. */
 scoterlime_answer scoterlime_pack(const uint8_t *store, size_t n, const uint32_t *records, size_t r, uint32_t id,

@@ -1,6 +1,6 @@
 -- Paper 01, demand 2, for a pack on sound stores: which order's table it writes, and when it tells 11 and with which link.
 use mathlib.Core.Path.{_≡_, refl}
-use Prim.Native.Nat.{ℕ, _+_, _≤_, _<_}
+use Prim.Native.Nat.{ℕ, _≤_, _<_}
 use mathlib.Core.List.{List, [], _∷_}
 use mathlib.Core.Bool.{Bool, true, false, not, true≢false}
 use native.Mathlib.Omega.{arith}
@@ -11,13 +11,14 @@ use Rattle.lists.specs.Lists.{over}
 use Rattle.answer.specs.declared.Overflow.{Overflow}
 use Rattle.answer.specs.declared.Refusal.the-variants as Refusal
 use Rattle.answer.specs.declared.Packing.the-variants.{Done}
-use Rattle.model.specs.Bag.{count}
-use Rattle.model.specs.Graph.{Graph, graphOf, kids, reached}
+use Rattle.model.specs.Graph.{Graph, graphOf, reached}
+use Rattle.model.specs.Reading.{readingAt, readings}
 use Rattle.model.specs.Distance.{kahnOrder, distanceOrder}
-use Rattle.model.specs.Table.{placeOf, unfit, Outcome, placed, overflow, arranged, tableLength, tableOf}
+use Rattle.model.specs.Table.{unfit, Outcome, placed, overflow, arranged, tableLength, tableOf}
 use Rattle.model.specs.Judge.{Verdict, accepted, refused, when, verdict, overflows, judgePack}
 use Rattle.model.specs.Told.{Told, refusal}
 use Rattle.model.specs.Session.{content, tableIn}
+use Rattle.model.proofs.Tables.{LaidOut}
 use Rattle.model.proofs.Outcomes.{kahn-placed, distance-placed, none-placed}
 use Rattle.model.proofs.Verdicts.{passes, refused-number}
 use Rattle.layout.specs.Words.{objectLimit, linkLimit, closedCount, openDepth}
@@ -70,12 +71,13 @@ module _ (b w : List ℕ) (id : ℕ) (out work : List ℕ) where
   abbrev g : Graph
   g = graphOf (decode b w .closed)
 
-  -- an accepted one: its order, the output after it, and every child behind its parent
+  -- an accepted one: its order, and a table in front of the output that shows the root's reading from its first byte, every reached object's at
+  -- its place, and every child behind its parent
   pub record Ordered : Type 0 where
     pub order : List ℕ
     pub chosen : Chosen g id order
     pub written : packStep id b w out work .out ≡ over 0 (tableOf g (content (decode b w)) order) out
-    pub behind : (p c : ℕ) → 0 < count p (reached g id) → 0 < count c (kids g p) → placeOf g order p + g .size p ≤ placeOf g order c
+    pub laid : LaidOut g (reached g id) id (readingAt (readings (decode b w .closed))) order (tableOf g (content (decode b w)) order)
 
   -- no test but that of the orders applies, and neither order fits
   pub record Overflows (v : Overflow) : Type 0 where
@@ -109,7 +111,7 @@ module _ (b w : List ℕ) (id : ℕ) (out work : List ℕ) where
           order = o;
           chosen = c;
           written = rw (step-is, f, settled-accepted (verdictOn (placed o)) (placed o) e);
-          behind = placed-laid b w h id o f .behind;
+          laid = placed-laid b w h id o f;
         }
         go (overflow v) (none n) f e = absurd (true≢false (passes _ (settled-accepted (verdictOn (overflow v)) (overflow v) e) 5))
 

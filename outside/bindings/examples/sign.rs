@@ -1,8 +1,8 @@
-//! A sign's table: one leaf shared by two middle pieces under one root.
+//! A sign's table: one leaf shared by two middle objects under one root.
 
 use bindings::{records_need, work_need, Refused, Session};
 
-fn piece(session: &mut Session, bytes: &[u8], children: &[u32]) -> Result<u32, Refused> {
+fn object(session: &mut Session, bytes: &[u8], children: &[u32]) -> Result<u32, Refused> {
     session.open()?;
     session.put(bytes)?;
     for &child in children {
@@ -14,10 +14,10 @@ fn piece(session: &mut Session, bytes: &[u8], children: &[u32]) -> Result<u32, R
 fn main() -> Result<(), Refused> {
     let (mut store, mut records) = ([0; 12], vec![0; records_need(4, 4)]);
     let mut session = Session::start(&mut store, &mut records, 4, 4)?;
-    let d = piece(&mut session, b"d", &[])?;
-    let b = piece(&mut session, b"b", &[d])?;
-    let c = piece(&mut session, b"c", &[d])?;
-    let a = piece(&mut session, b"a", &[b, c])?;
+    let d = object(&mut session, b"d", &[])?;
+    let b = object(&mut session, b"b", &[d])?;
+    let c = object(&mut session, b"c", &[d])?;
+    let a = object(&mut session, b"a", &[b, c])?;
 
     let (mut out, mut work) = ([0; 16], vec![0; work_need(4, 4)]);
     let table = session.pack(a, &mut out, &mut work)?;

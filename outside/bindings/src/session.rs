@@ -42,13 +42,13 @@ impl<'a> Session<'a> {
         told(calls::link(self.store, self.records, width, id))
     }
 
-    /// The closed piece's id.
+    /// The closed object's id.
     pub fn close(&mut self) -> Result<u32, Refused> {
         // An id is below 4,096.
         told(calls::close(self.store, self.records)).map(|answer| answer.id as u32)
     }
 
-    pub fn drop_piece(&mut self) -> Result<Answer, Refused> {
+    pub fn drop_object(&mut self) -> Result<Answer, Refused> {
         told(calls::drop(self.store, self.records))
     }
 

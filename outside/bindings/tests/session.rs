@@ -14,7 +14,7 @@ fn a_refused_call_changes_nothing() {
     };
     assert_eq!(refused, Answer { number: 6, ..held });
     assert_eq!(session.tally(), Ok(held));
-    assert_eq!(session.drop_piece().unwrap().bytes, 0);
+    assert_eq!(session.drop_object().unwrap().bytes, 0);
 }
 
 #[test]

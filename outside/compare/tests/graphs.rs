@@ -19,6 +19,8 @@ struct Seen {
     most: (usize, usize),
     /// Tables that only the distance order made fit.
     by_distance: usize,
+    /// Refusals of an offset that is one too many for width 2.
+    one_too_many: usize,
 }
 
 /// A session that has room for the graph and little more.
@@ -70,6 +72,7 @@ fn compare(graph: &Graph, numbers: &mut Numbers, seen: &mut Seen) {
         claims.check(&call, &outcome);
         let accepted = outcome.answer.number == 0;
         seen.by_distance += usize::from(accepted && needs_distance(&pair, id));
+        seen.one_too_many += usize::from(outcome.answer.needed == 65_536);
     }
     seen.graphs += 1;
     seen.calls += pair.told.iter().sum::<usize>();
@@ -102,7 +105,7 @@ fn many_graphs() {
             fanout: 3,
             widths: &[2, 2, 2, 2, 4],
             sizes: &[
-                2, 4, 10, 30_000, 65_525, 65_527, 65_529, 65_531, 65_533, 65_535,
+                2, 3, 4, 10, 30_000, 65_526, 65_528, 65_529, 65_530, 65_532, 65_533, 65_534,
             ],
         };
         compare(
@@ -142,11 +145,7 @@ fn many_graphs() {
     report(&seen);
     assert!(seen.graphs >= 2_000);
     assert!(seen.told[11] >= 100 && seen.told[10] >= 1_000);
-    assert!(
-        seen.by_distance >= 30,
-        "{} by the distance order",
-        seen.by_distance
-    );
+    assert!(seen.by_distance >= 30 && seen.one_too_many >= 5);
 }
 
 /// As many pieces and links as the limits allow.
@@ -202,5 +201,8 @@ fn report(seen: &Seen) {
         "  told 0: {}, 10: {}, 11: {}",
         seen.told[0], seen.told[10], seen.told[11]
     );
-    println!("  tables by the distance order alone: {}", seen.by_distance);
+    println!(
+        "  tables by the distance order alone: {}, offsets of 65,536 refused: {}",
+        seen.by_distance, seen.one_too_many
+    );
 }
