@@ -92,12 +92,14 @@ module _ {b w m m₁ m₂ : List ℕ} (s : Sound b w) (room : graphEnd w ≤ len
   pub graph-copied : Copied b w m m₂
   graph-copied = record {
     kept = kept-then (kept-less (ns .kept) 0 (graphEnd w) (omega arith) (omega arith)) (kept-less (ls .kept) 0 (graphEnd w) (omega arith) (omega arith));
-    tidy = record {
-      nodes = s .head .closed;
-      limit = s .head .few;
-      room = omega arith;
-      light = λ i h. let o = node-words i h in let e = entries s i h in omega arith;
-      node = tidy-node;
+    stands = record {
+      tidy = record {
+        nodes = s .head .closed;
+        limit = s .head .few;
+        room = omega arith;
+        light = λ i h. let o = node-words i h in let e = entries s i h in omega arith;
+        node = tidy-node;
+      };
+      graph = λ k. record { size = fun-ext (λ i. same-node i .size) k; links = fun-ext (λ i. same-node i .links) k };
     };
-    graph = λ k. record { size = fun-ext (λ i. same-node i .size) k; links = fun-ext (λ i. same-node i .links) k };
   }

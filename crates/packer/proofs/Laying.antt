@@ -21,7 +21,6 @@ use Rattle.layout.specs.Words.{objectLimit, closedCount}
 use Rattle.layout.specs.Decode.{decode}
 use Rattle.layout.specs.declared.sound.State.{State}
 use Rattle.layout.proofs.Facts.{sound-of}
-use Rattle.order.specs.Graph.{graphIn}
 use Rattle.order.specs.Fit.{Trying, Tried, lookOf, orderWith}
 use Rattle.order.specs.declared.fit.Look.{Look}
 use Rattle.order.specs.declared.fit.Look.the-variants.{Fits, Over}
@@ -29,6 +28,7 @@ use Rattle.packer.specs.Copy.{graphEnd}
 use Rattle.packer.specs.Write.{Writing, orderIn, placesIn, tableIn}
 use Rattle.packer.specs.Lay.{Laying, Laid, lookIn, oneOrder}
 use Rattle.packer.proofs.Formed.{sound-formed}
+use Rattle.packer.proofs.Standing.{stands-kept, tidy-read}
 
 -- ---- an outcome by what the look at it tells
 
@@ -71,7 +71,7 @@ module _ {b w : List ℕ} {s : State} {root room : ℕ} {m : List ℕ} (c : Layi
   pub lay-trying : Trying (s .objects) (s .objects * 3 + s .links * 3) (s .closed) root m
   lay-trying = record {
     long = omega (arith, c .long, c .read .objectsIs, c .read .linksIs);
-    tidy = rw (c .read .objectsIs, c .read .linksIs, c .read .closedIs) (c .tidy);
+    tidy = tidy-read (c .stands) (c .read);
     inside = omega (arith, c .known, c .read .closedIs);
   }
 
@@ -86,14 +86,14 @@ module _ {b w : List ℕ} {s : State} {root room : ℕ} {m : List ℕ} (c : Layi
     tried = rw (c .read .objectsIs, c .read .linksIs, c .read .closedIs) at t
 
     order-is : orderIn w m′ r ≡ orderWith keyed g root
-    order-is = tried .order ∙ ap (λ x. orderWith keyed x root) (c .graph)
+    order-is = tried .order ∙ ap (λ x. orderWith keyed x root) (c .stands .graph)
 
     places-are : (i : ℕ) → 0 < count i (orderWith keyed g root) → getD (placesIn w m′) i 0 ≡ placeOf g (orderWith keyed g root) i
     places-are =
-        subst (λ x. (i : ℕ) → 0 < count i (orderWith keyed x root) → getD (placesIn w m′) i 0 ≡ placeOf x (orderWith keyed x root) i) (c .graph) (tried .places)
+        subst (λ x. (i : ℕ) → 0 < count i (orderWith keyed x root) → getD (placesIn w m′) i 0 ≡ placeOf x (orderWith keyed x root) i) (c .stands .graph) (tried .places)
 
     look-is : a ≡ lookOf (unfit g (orderWith keyed g root))
-    look-is = tried .found ∙ ap (λ x. lookOf (unfit x (orderWith keyed x root))) (c .graph)
+    look-is = tried .found ∙ ap (λ x. lookOf (unfit x (orderWith keyed x root))) (c .stands .graph)
 
     pub lay-writing : Writing b w s m′ r room
     lay-writing =
@@ -102,8 +102,7 @@ module _ {b w : List ℕ} {s : State} {root room : ℕ} {m : List ℕ} (c : Layi
         record {
           read = c .read;
           long = omega (arith, tried .kept .long, c .long);
-          tidy = rw (tried .kept .front) (c .tidy);
-          graph = ap (graphIn (objectLimit w) (closedCount w)) (tried .kept .front) ∙ c .graph;
+          stands = stands-kept (c .stands) (tried .kept);
           nodes = tried .nodes;
           once = rw order-is (unfold Once in λ x. omega (arith, once x, rooted .once x));
           closed = rw order-is (unfold Closed in λ p k h q. omega (arith, once k, rooted .closed p k (omega (arith, once p)) q));
@@ -141,8 +140,7 @@ module _ {b w : List ℕ} {s : State} {root room : ℕ} {m : List ℕ} (c : Layi
       second-laying k = record {
         read = c .read;
         long = omega (arith, l .kept .long, c .long);
-        tidy = rw (l .kept .front) (c .tidy);
-        graph = ap (graphIn (objectLimit w) (closedCount w)) (l .kept .front) ∙ c .graph;
+        stands = stands-kept (c .stands) (l .kept);
         known = c .known;
         fits = omega (arith, c .fits);
       }

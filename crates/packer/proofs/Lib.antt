@@ -3,6 +3,7 @@ pub mod ClosedObjects
 pub mod CopiedGraph
 pub mod Fields
 pub mod Formed
+pub mod Standing
 pub mod Objects
 pub mod Laying
 pub mod Works

@@ -27,6 +27,7 @@ use Rattle.packer.specs.Write.{Writing, orderIn, tableIn}
 use Rattle.lists.proofs.Overs.{over-then, over-lent}
 use Rattle.model.proofs.Written.{filled-same, count-at, before-at}
 use Rattle.packer.proofs.Formed.{decoded-at, sound-fields}
+use Rattle.packer.proofs.Standing.{tidy-read}
 
 -- the sizes and links of the closed objects
 abbrev graphAt : List ℕ → List ℕ → Graph
@@ -85,7 +86,7 @@ module _ {b w m : List ℕ} {s : State} {r room : ℕ} (c : Writing b w s m r ro
     pub object-node : AtNode (s .objects) (front s) (s .closed) (idAt s m t) m
     object-node = record {
       long = omega (arith, c .long, c .read .objectsIs, c .read .linksIs);
-      tidy = rw (c .read .objectsIs, c .read .linksIs, c .read .closedIs) (c .tidy);
+      tidy = tidy-read (c .stands) (c .read);
       inside = omega (arith, object-known, c .read .closedIs);
     }
 
@@ -117,7 +118,7 @@ module _ {b w m : List ℕ} {s : State} {r room : ℕ} (c : Writing b w s m r ro
     rest-is = ap (tableFrom (graphAt b w) (content (decode b w)) (placeOf (graphAt b w) (orderIn w m r))) first
 
     links-are : graphIn (s .objects) (s .closed) (take (front s) m) .links (idAt s m t) ≡ graphAt b w .links (idAt s m t)
-    links-are = rw (c .read .objectsIs, c .read .linksIs, c .read .closedIs) (ap (λ (g : Graph). g .links (getD m (graphEnd w + objectLimit w * 4 + t) 0)) (c .graph))
+    links-are = rw (c .read .objectsIs, c .read .linksIs, c .read .closedIs) (ap (λ (g : Graph). g .links (getD m (graphEnd w + objectLimit w * 4 + t) 0)) (c .stands .graph))
 
     object-filled : filled (offsetBy (region (front s + s .objects * 5) (s .objects) m) (idAt s m t)) (graphAt b w .links (idAt s m t)) (content (decode b w) (idAt s m t)) ≡ object
     unfolding objectBytes Closed object

@@ -30,7 +30,6 @@ use Rattle.layout.specs.declared.sound.State.{State}
 use Rattle.layout.proofs.Facts.{sound-of}
 use Rattle.session.specs.Steps.{tallyIn}
 use Rattle.session.proofs.Held.{Held}
-use Rattle.order.specs.Graph.{graphIn}
 use Rattle.order.specs.Pass.{Relaxing, Measured}
 use Rattle.order.specs.Need.{workNeed}
 use Rattle.order.specs.declared.fit.Look.{Look}
@@ -38,6 +37,7 @@ use Rattle.order.specs.declared.fit.Look.the-variants.{Fits, Over}
 use Rattle.packer.specs.Copy.{Copied, graphEnd}
 use Rattle.packer.specs.Pack.{PackOut, packed, cleared, clears, settle, packBy, packStep}
 use Rattle.packer.specs.Lay.{Laying, Laid, lookIn, Packable, Packed}
+use Rattle.packer.proofs.Standing.{stands-kept, tidy-read}
 
 -- ---- the two tests left once the graph is copied, on a table of n bytes
 
@@ -68,7 +68,7 @@ module _ {b w : List ℕ} {s : State} {t : Tally} {root : ℕ} {m : List ℕ} (c
     pub pack-relaxing : Relaxing (s .objects) (s .objects * 3 + s .links * 3) (s .closed) root m₁
     pack-relaxing = record {
       long = omega (arith, c .long, q .kept .long, c .read .objectsIs, c .read .linksIs);
-      tidy = rw (c .read .objectsIs, c .read .linksIs, c .read .closedIs) (q .tidy);
+      tidy = tidy-read (q .stands) (c .read);
       inside = omega (arith, c .known, c .read .closedIs);
     }
 
@@ -78,7 +78,7 @@ module _ {b w : List ℕ} {s : State} {t : Tally} {root : ℕ} {m : List ℕ} (c
       measured = rw (c .read .objectsIs, c .read .linksIs, c .read .closedIs) at z
 
       length-is : n ≡ tableLength g root
-      length-is = measured .size ∙ ap (λ x. tableLength x root) (q .graph)
+      length-is = measured .size ∙ ap (λ x. tableLength x root) (q .stands .graph)
 
       kept : Kept 0 (workNeed (objectLimit w) (linkLimit w)) m m₂
       kept = kept-then (kept-less (q .kept) 0 _ (omega arith) (omega arith)) (kept-less (measured .kept) 0 _ (omega arith) (omega arith))
@@ -87,8 +87,7 @@ module _ {b w : List ℕ} {s : State} {t : Tally} {root : ℕ} {m : List ℕ} (c
       pack-laying h = record {
         read = c .read;
         long = omega (arith, c .long, kept .long);
-        tidy = rw (measured .kept .front) (q .tidy);
-        graph = ap (graphIn (objectLimit w) (closedCount w)) (measured .kept .front) ∙ q .graph;
+        stands = stands-kept (q .stands) (measured .kept);
         known = c .known;
         fits = omega (arith, length-is);
       }

@@ -15,11 +15,15 @@ use Rattle.order.specs.Need.{graphWords}
 abbrev pub graphEnd : List ℕ → ℕ
 graphEnd w = graphWords (objectLimit w) (linkLimit w)
 
--- the work memory m became m′: its first words hold the closed objects' graph, and no others change
+-- the closed objects' graph stands in the first words of the work memory m
+pub record Standing (b w m : List ℕ) : Type 0 where
+  pub tidy : Tidy (objectLimit w) (graphEnd w) (closedCount w) (take (graphEnd w) m)
+  pub graph : graphIn (objectLimit w) (closedCount w) (take (graphEnd w) m) ≡ graphOf (decode b w .closed)
+
+-- m became m′, and no other words change
 pub record Copied (b w m m′ : List ℕ) : Type 0 where
   pub kept : Kept 0 (graphEnd w) m m′
-  pub tidy : Tidy (objectLimit w) (graphEnd w) (closedCount w) (take (graphEnd w) m′)
-  pub graph : graphIn (objectLimit w) (closedCount w) (take (graphEnd w) m′) ≡ graphOf (decode b w .closed)
+  pub stands : Standing b w m′
 
 -- ---- the two parts of the copy
 

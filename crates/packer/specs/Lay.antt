@@ -3,7 +3,7 @@ use Prim.Native.Nat.{ℕ, _≤_, _<_}
 use mathlib.Core.Path.{_≡_}
 use mathlib.Core.List.{List, [], _∷_}
 use mathlib.Core.Bool.{Bool}
-use lib.ListN.{length, take}
+use lib.ListN.{length}
 use Rattle.lists.specs.Lists.{over}
 use Rattle.regions.specs.Region.{Kept}
 use Rattle.answer.specs.declared.tally.Tally.{Tally}
@@ -17,20 +17,18 @@ use Rattle.layout.specs.Decode.{decode}
 use Rattle.layout.specs.Known.{Read}
 use Rattle.layout.specs.declared.sound.State.{State}
 use Rattle.session.specs.Steps.{tallyIn}
-use Rattle.order.specs.Graph.{graphIn, Tidy}
 use Rattle.order.specs.Fit.{orderWith}
 use Rattle.order.specs.Need.{workNeed}
 use Rattle.order.specs.declared.fit.Look.{Look}
 use Rattle.order.specs.declared.fit.Look.the-variants.{Fits, Over}
-use Rattle.packer.specs.Copy.{graphEnd}
+use Rattle.packer.specs.Copy.{graphEnd, Standing}
 use Rattle.packer.specs.Pack.{packed, cleared, packBy}
 
 -- what laying an order from a root asks: the graph stands in the work memory m, and its table has room
 pub record Laying (b w : List ℕ) (s : State) (root room : ℕ) (m : List ℕ) : Type 0 where
   pub read : Read b w s
   pub long : workNeed (objectLimit w) (linkLimit w) ≤ length m
-  pub tidy : Tidy (objectLimit w) (graphEnd w) (closedCount w) (take (graphEnd w) m)
-  pub graph : graphIn (objectLimit w) (closedCount w) (take (graphEnd w) m) ≡ graphOf (decode b w .closed)
+  pub stands : Standing b w m
   pub known : root < closedCount w
   pub fits : tableLength (graphOf (decode b w .closed)) root ≤ room
 

@@ -2,7 +2,7 @@
 use Prim.Native.Nat.{ℕ, _+_, _*_, _≤_, _<_}
 use mathlib.Core.Path.{_≡_}
 use mathlib.Core.List.{List}
-use lib.ListN.{length, getD, take}
+use lib.ListN.{length, getD}
 use Rattle.lists.specs.Lists.{total}
 use Rattle.regions.specs.Region.{region}
 use Rattle.model.specs.Bag.{count}
@@ -13,10 +13,9 @@ use Rattle.layout.specs.Words.{objectLimit, linkLimit, closedCount}
 use Rattle.layout.specs.Decode.{decode}
 use Rattle.layout.specs.Known.{Read}
 use Rattle.layout.specs.declared.sound.State.{State}
-use Rattle.order.specs.Graph.{graphIn, Tidy}
 use Rattle.order.specs.Run.{OrderIds}
 use Rattle.order.specs.Need.{workNeed}
-use Rattle.packer.specs.Copy.{graphEnd}
+use Rattle.packer.specs.Copy.{graphEnd, Standing}
 
 -- the first r placed objects, and every object's place
 abbrev pub orderIn : List ℕ → List ℕ → ℕ → List ℕ
@@ -29,8 +28,7 @@ placesIn w m = region (graphEnd w + objectLimit w * 5) (objectLimit w) m
 pub record Writing (b w : List ℕ) (s : State) (m : List ℕ) (r room : ℕ) : Type 0 where
   pub read : Read b w s
   pub long : workNeed (objectLimit w) (linkLimit w) ≤ length m
-  pub tidy : Tidy (objectLimit w) (graphEnd w) (closedCount w) (take (graphEnd w) m)
-  pub graph : graphIn (objectLimit w) (closedCount w) (take (graphEnd w) m) ≡ graphOf (decode b w .closed)
+  pub stands : Standing b w m
   pub nodes : OrderIds (objectLimit w) (graphEnd w) (closedCount w) r m
   pub once : Once (orderIn w m r)
   pub closed : Closed (graphOf (decode b w .closed)) (orderIn w m r)
