@@ -1,5 +1,5 @@
 -- Paper 01, demand 3: after an accepted start every call of every list leaves a sound session, never tells 12, and is as the history says.
-use mathlib.Core.Path.{_≡_, refl, ap, _∙_}
+use mathlib.Core.Path.{_≡_, refl, sym, ap, subst, _∙_}
 use Prim.Native.Nat.{ℕ}
 use mathlib.Core.List.{List, [], _∷_}
 use native.Mathlib.Omega.{arith}
@@ -10,7 +10,7 @@ use Rattle.model.specs.Reading.{Reading}
 use Rattle.model.specs.Judge.{Verdict, accepted, refused}
 use Rattle.model.specs.Told.{Told, doneClose}
 use Rattle.model.specs.Session.{Session, SessionCall, closeCall, sessionCall, packCall, PackLeft, step, afterCall}
-use Rattle.model.specs.History.{History, inner, idOf, counts, begun, judged, accept, after, tell, idTold, expected, PackAgrees, Agrees}
+use Rattle.model.specs.History.{History, inner, idOf, counts, begun, judged, accept, after, tell, idTold, expected, PackAgrees, Alike, Agrees}
 use Rattle.model.proofs.Verdicts.{refused-number}
 use Rattle.model.proofs.Closings.{Known, known-alike, known-closed, Starts, known-after}
 use Rattle.model.proofs.Mirrors.{Mirrors, mirrors-started}
@@ -117,9 +117,9 @@ module _ (s : Stores) (h : History) where
 keeps-id : {r : Reading} {i : ℕ} (cs : List LentCall) {s : Stores} {h : History} → Stands s h → Known r i (h .closed) → KeepsId r i (run cs s) s h
 unfolding KeepsId run
 keeps-id [] k q = tt
-keeps-id (c ∷ cs) {s = s} {h = h} k q =
+keeps-id {r} {i} (c ∷ cs) {s = s} {h = h} k q =
     let l = claimed c k in
-    (λ z. rw (closed-told s h (l .claim) z .1) (known-alike q (inner (h .opens))), λ n. keeps-id cs (l .stands) (known-after needs _ h (no-start s h c (l .claim) n) q))
+    (λ z. subst (λ j. Alike (inner (h .opens)) r j i) (sym (closed-told s h (l .claim) z .1)) (known-alike q (inner (h .opens))), λ n. keeps-id cs (l .stands) (known-after needs _ h (no-start s h c (l .claim) n) q))
 
 -- ---- a list of calls
 
