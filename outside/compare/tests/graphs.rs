@@ -82,65 +82,80 @@ fn compare(graph: &Graph, numbers: &mut Numbers, seen: &mut Seen) {
     seen.most = seen.most.max((graph.len(), shapes::links(graph)));
 }
 
-const SMALL: Make = Make {
-    pieces: 40,
-    fanout: 4,
-    widths: &[2, 2, 4],
-    sizes: &[2, 3, 5, 9, 20],
-};
+/// Graphs of some families, with at least `least` pieces and fewer than `more`
+/// more.
+struct Batch {
+    turns: usize,
+    families: &'static [Family],
+    least: usize,
+    more: usize,
+    make: Make,
+}
+
+const BATCHES: [Batch; 4] = [
+    Batch {
+        turns: 1_400,
+        families: &FAMILIES,
+        least: 2,
+        more: 40,
+        make: make(4, &[2, 2, 4], &[2, 3, 5, 9, 20]),
+    },
+    // Few pieces, of sizes about what a field of width 2 holds.
+    Batch {
+        turns: 400,
+        families: &FAMILIES,
+        least: 3,
+        more: 4,
+        make: make(
+            3,
+            &[2, 2, 2, 2, 4],
+            &[
+                2, 3, 4, 10, 30_000, 65_526, 65_528, 65_529, 65_530, 65_532, 65_533, 65_534,
+            ],
+        ),
+    },
+    // One large leaf among small ones: placed last it fits.
+    Batch {
+        turns: 200,
+        families: &[Family::Fan],
+        least: 3,
+        more: 4,
+        make: make(3, &[2], &[2, 4, 10, 10, 65_519, 65_525]),
+    },
+    // Many pieces whose table is longer than a field of width 2 reaches.
+    Batch {
+        turns: 40,
+        families: &FAMILIES,
+        least: 150,
+        more: 150,
+        make: make(2, &[2, 4, 4, 4], &[4, 200, 300, 500, 900]),
+    },
+];
+
+const fn make(fanout: usize, widths: &'static [u32], sizes: &'static [usize]) -> Make {
+    Make {
+        pieces: 0,
+        fanout,
+        widths,
+        sizes,
+    }
+}
 
 #[test]
 fn many_graphs() {
     let mut numbers = seed::numbers("graphs");
     let mut seen = Seen::default();
-    for turn in 0..1_400 {
-        let pieces = 2 + numbers.below(SMALL.pieces);
-        let graph = Make { pieces, ..SMALL }.graph(FAMILIES[turn % 5], &mut numbers);
-        compare(&graph, &mut numbers, &mut seen);
-    }
-    // Few pieces, of sizes about what a field of width 2 holds.
-    for turn in 0..400 {
-        let make = Make {
-            pieces: 3 + numbers.below(4),
-            fanout: 3,
-            widths: &[2, 2, 2, 2, 4],
-            sizes: &[
-                2, 3, 4, 10, 30_000, 65_526, 65_528, 65_529, 65_530, 65_532, 65_533, 65_534,
-            ],
-        };
-        compare(
-            &make.graph(FAMILIES[turn % 5], &mut numbers),
-            &mut numbers,
-            &mut seen,
-        );
-    }
-    // One large leaf among small ones: placed last it fits.
-    for _ in 0..200 {
-        let make = Make {
-            pieces: 3 + numbers.below(4),
-            fanout: 3,
-            widths: &[2],
-            sizes: &[2, 4, 10, 10, 65_519, 65_525],
-        };
-        compare(
-            &make.graph(Family::Fan, &mut numbers),
-            &mut numbers,
-            &mut seen,
-        );
-    }
-    // Many pieces whose table is longer than a field of width 2 reaches.
-    for turn in 0..40 {
-        let make = Make {
-            pieces: 150 + numbers.below(150),
-            fanout: 2,
-            widths: &[2, 4, 4, 4],
-            sizes: &[4, 200, 300, 500, 900],
-        };
-        compare(
-            &make.graph(FAMILIES[turn % 5], &mut numbers),
-            &mut numbers,
-            &mut seen,
-        );
+    for batch in &BATCHES {
+        for turn in 0..batch.turns {
+            let pieces = batch.least + numbers.below(batch.more);
+            let family = batch.families[turn % batch.families.len()];
+            let graph = Make {
+                pieces,
+                ..batch.make
+            }
+            .graph(family, &mut numbers);
+            compare(&graph, &mut numbers, &mut seen);
+        }
     }
     report(&seen);
     assert!(seen.graphs >= 2_000);
@@ -162,9 +177,7 @@ fn graphs_of_all_pieces_and_links() {
     ] {
         let make = Make {
             pieces: 4_096,
-            fanout: 4,
-            widths,
-            sizes,
+            ..make(4, widths, sizes)
         };
         let graph = full(make.graph(family, &mut numbers));
         compare(&graph, &mut numbers, &mut seen);
