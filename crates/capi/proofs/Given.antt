@@ -7,10 +7,10 @@ use Rattle.answer.specs.declared.Overflow.{Overflow}
 use Rattle.answer.specs.declared.Answer.{Answer}
 use Rattle.answer.specs.declared.Closing.{Closing}
 use Rattle.answer.specs.declared.Packing.{Packing}
-use Rattle.session.specs.Steps.{Out, CloseOut, outcome, closing}
-use Rattle.session.specs.Runs.{toldBy, toldByClose, leftBy, leftByClose}
+use Rattle.steps.specs.Steps.{Out, CloseOut, outcome, closing}
+use Rattle.steps.specs.Runs.{leftBy, leftByClose}
+use Rattle.model.specs.Told.{toldBy, toldByClose, toldByPack}
 use Rattle.packer.specs.Pack.{PackOut, packed}
-use Rattle.packer.specs.Demand.{toldByPack}
 use Rattle.capi.specs.declared.numbers.Numbers.{Numbers}
 use Rattle.capi.specs.Numbers.{numbers, given, givenBy, packGiven, packGivenBy}
 

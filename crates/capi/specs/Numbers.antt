@@ -1,10 +1,9 @@
 -- What a caller in C is told: the ten numbers of an answer, and what the call left in lent memory.
 use Prim.Native.Nat.{ℕ}
 use mathlib.Core.List.{List}
-use Rattle.model.specs.Told.{Told}
-use Rattle.session.specs.Runs.{Left}
+use Rattle.model.specs.Told.{Told, toldByPack}
+use Rattle.steps.specs.Runs.{Left}
 use Rattle.packer.specs.Pack.{PackOut}
-use Rattle.packer.specs.Demand.{toldByPack}
 use Rattle.capi.specs.declared.numbers.Numbers.{Numbers}
 
 -- paper 01's number and values, in the order of the struct

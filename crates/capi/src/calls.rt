@@ -4,8 +4,8 @@ use crate::numbers::tell;
 use crate::numbers::tell_close;
 use answer::ObjectId;
 ghost use mathlib.Core.Path.{_≡_};
-ghost use Rattle.session.specs.Steps.{startStep, openStep, putStep, linkStep, closeStep, dropStep, tallyStep};
-ghost use Rattle.session.specs.Runs.{leftBy, leftByClose};
+ghost use Rattle.steps.specs.Steps.{startStep, openStep, putStep, linkStep, closeStep, dropStep, tallyStep};
+ghost use Rattle.steps.specs.Runs.{leftBy, leftByClose};
 ghost use Rattle.capi.specs.Numbers.{given, givenBy};
 
 #[no_mangle]

@@ -9,8 +9,7 @@ use answer::named_by;
 use answer::nowhere;
 use answer::number_of;
 ghost use mathlib.Core.Path.{_≡_};
-ghost use Rattle.session.specs.Runs.{refusedTold, toldBy, toldByClose};
-ghost use Rattle.packer.specs.Demand.{toldByPack};
+ghost use Rattle.model.specs.Told.{refusedTold, toldBy, toldByClose, toldByPack};
 ghost use Rattle.capi.specs.Numbers.{numbers};
 
 #[repr(C)]

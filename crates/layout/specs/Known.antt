@@ -9,7 +9,7 @@ use Rattle.layout.specs.Tables.{rises, falls, forAll}
 use Rattle.layout.specs.Words.{objectLimit, closedCount, openDepth, endsAt, linkEndsAt, need, storeLength, linkLimit, ends, linkEnds, begins, linkBegins, top, linkTop, low, linkLow}
 use Rattle.layout.specs.Fields.{objectOk}
 use Rattle.layout.specs.Decode.{openAt, closedAt}
-use Rattle.layout.specs.declared.sound.State.{State}
+use Rattle.layout.specs.declared.state.State.{State}
 
 pub record Head (n : ℕ) (w : List ℕ) : Type 0 where
   pub some : 1 ≤ objectLimit w

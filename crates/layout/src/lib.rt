@@ -1,5 +1,3 @@
-// The words of the record store, and the soundness test.
-pub mod fields;
-pub mod sound;
-pub mod tables;
+// The words of the record store, what they mean, and what sound stores hold.
+pub mod state;
 pub mod words;

@@ -19,8 +19,8 @@ use Rattle.model.proofs.Bags.{Same, same, other, sameOr, Zero, none, some, zero
 use Rattle.model.proofs.Waits.{waits-without}
 use Rattle.model.proofs.Reach.{reached-rooted}
 use Rattle.model.proofs.Orders.{Inv, next-free, next-inv, length-left, rooted-inv}
-use Rattle.order.specs.Pass.{relaxed}
-use Rattle.order.specs.Run.{Queue, leastFrom, leastAt, removeAt, released, releasedAll, placing, keyBy, runOrder}
+use Rattle.reach.specs.Pass.{relaxed}
+use Rattle.placing.specs.Run.{Queue, leastFrom, leastAt, removeAt, released, releasedAll, placing, keyBy, runOrder}
 use Rattle.order.specs.Fit.{orderOf}
 use Rattle.order.proofs.Reached.{Light, counts-waits, dists-distance}
 

@@ -1,14 +1,3 @@
-pub mod Links
-pub mod Touching
-pub mod Falling
-pub mod Marked
-pub mod Least
-pub mod Removing
-pub mod Releasing
-pub mod Taking
-pub mod Going
-pub mod Root
-pub mod Arranging
 pub mod Summing
 pub mod Looking
 pub mod Trying

@@ -12,11 +12,11 @@ use Rattle.regions.proofs.Bounds.{top-at}
 use Rattle.answer.specs.declared.Overflow.{Overflow}
 use Rattle.field.specs.BigEndian.{capacity}
 use Rattle.model.specs.Table.{offset}
-use Rattle.order.specs.Graph.{graphIn, linkOf, linksAfter, linkCount, AtNode, FieldOf}
+use Rattle.graph.specs.Graph.{graphIn, linkOf, linksAfter, linkCount, AtNode, FieldOf}
 use Rattle.order.specs.Fit.{orElse, offsetBy, lookLinks, look, Placing}
 use Rattle.order.specs.declared.fit.Look.{Look}
 use Rattle.order.specs.declared.fit.Look.the-variants.{Fits, Over}
-use Rattle.order.proofs.Links.{links-in, links-next, links-none}
+use Rattle.graph.proofs.Links.{links-in, links-next, links-none}
 use Rattle.order.proofs.Summing.{order-long}
 
 -- t links of node i fit

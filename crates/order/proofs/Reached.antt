@@ -17,7 +17,7 @@ use Rattle.model.specs.Table.{tableLength}
 use Rattle.model.proofs.Bags.{Same, same, other, sameOr, Zero, none, some, zeroOr, one-same, one-other, count-append, total-from}
 use Rattle.model.proofs.Reach.{down-above, reached-rooted, reached-first, reached-low}
 use Rattle.model.proofs.Distances.{in-kids, all-length, distance-least, distance-is-least}
-use Rattle.order.specs.Pass.{Pass, farAway, touched, touchedAll, passed, begun, relaxed, markedSum}
+use Rattle.reach.specs.Pass.{Pass, farAway, touched, touchedAll, passed, begun, relaxed, markedSum}
 
 -- 0 for 0, else 1
 abbrev flag : ℕ → ℕ

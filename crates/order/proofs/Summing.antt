@@ -9,9 +9,9 @@ use Rattle.regions.specs.Region.{region, Kept}
 use Rattle.regions.proofs.Laws.{region-length, region-at, region-in}
 use Rattle.regions.proofs.Bounds.{top-at}
 use Rattle.regions.proofs.Frame.{kept-all, kept-then, kept-set, kept-less, kept-below, kept-at}
-use Rattle.order.specs.Graph.{graphIn}
+use Rattle.graph.specs.Graph.{graphIn}
 use Rattle.order.specs.Fit.{placesFrom, Placing, PlacedAt}
-use Rattle.order.proofs.Links.{size-in}
+use Rattle.graph.proofs.Links.{size-in}
 
 -- t nodes have their places, and the next begins at `at`
 pub record Summing (p g n r t at : ℕ) (w₀ w : List ℕ) : Type 0 where

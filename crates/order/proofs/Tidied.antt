@@ -17,11 +17,11 @@ use Rattle.model.specs.Table.{placeOf, unfit, tableLength}
 use Rattle.model.proofs.Distances.{kid-link}
 use Rattle.model.proofs.Orders.{orderBy-once}
 use Rattle.model.proofs.Reach.{reached-rooted}
-use Rattle.order.specs.Graph.{graphIn, linkAt, linksFrom, linksAt, linkCount, linkOf, Tidy}
-use Rattle.order.specs.Pass.{Pass, Measured, Passes, relaxed, markedSum}
+use Rattle.graph.specs.Graph.{graphIn, linkAt, linksFrom, linksAt, linkCount, linkOf, Tidy}
+use Rattle.reach.specs.Pass.{Pass, Measured, Passes, relaxed, markedSum}
 use Rattle.order.specs.Fit.{placesFrom, orderOf, lookAt, lookOf, Ran, orderWith, Tried}
 use Rattle.order.specs.declared.fit.Look.{Look}
-use Rattle.order.proofs.Links.{width-narrow}
+use Rattle.graph.proofs.Links.{width-narrow}
 use Rattle.order.proofs.Reached.{Light, sum-length, reached-inside}
 use Rattle.order.proofs.Counted.{order-kahn, order-distance}
 use Rattle.order.proofs.Placed.{places-placed}

@@ -7,11 +7,11 @@ use native.Mathlib.Omega.{arith}
 use lib.ListN.{take, replicate}
 use Rattle.regions.specs.Region.{region, Kept, Filling}
 use Rattle.regions.proofs.Frame.{kept-then, kept-less, kept-below}
-use Rattle.order.specs.Graph.{graphIn}
-use Rattle.order.specs.Run.{Arranged}
+use Rattle.graph.specs.Graph.{graphIn}
+use Rattle.placing.specs.Run.{Arranged}
 use Rattle.order.specs.Fit.{placesFrom, look, orderOf, Placing, PlacedAt, Trying, Ran}
 use Rattle.order.specs.declared.fit.Look.{Look}
-use Rattle.order.proofs.Links.{tidy-kept}
+use Rattle.graph.proofs.Links.{tidy-kept}
 
 -- the places lie behind the graph and the order
 placing-kept : (p g : ℕ) {n r : ℕ} {w w′ : List ℕ} → Placing p g n r w → Kept (g + p * 5) (g + p * 6) w w′ → Placing p g n r w′

@@ -13,9 +13,9 @@ use Rattle.model.specs.Graph.{Graph}
 use Rattle.model.specs.Bag.{count}
 use Rattle.model.specs.Distance.{kahnOrder, distanceOrder}
 use Rattle.model.specs.Table.{offset, placeOf, unfit}
-use Rattle.order.specs.Graph.{graphIn, Tidy}
-use Rattle.order.specs.Pass.{relaxed}
-use Rattle.order.specs.Run.{runOrder, keyBy, OrderIds}
+use Rattle.graph.specs.Graph.{graphIn, Tidy}
+use Rattle.reach.specs.Pass.{relaxed}
+use Rattle.placing.specs.Run.{runOrder, keyBy, OrderIds}
 use Rattle.order.specs.declared.fit.Look.{Look}
 use Rattle.order.specs.declared.fit.Look.the-variants.{Fits, Over}
 

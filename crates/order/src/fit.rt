@@ -1,17 +1,17 @@
 // Places, and the first link that does not fit.
+use answer::ObjectId;
+use answer::Overflow;
+use field::capacity;
+use graph::field_at;
+use graph::link_count;
+use placing::arrange;
+use regions::fill;
 ghost use mathlib.Core.Path.{_≡_};
 ghost use Prim.Native.Nat.{_+_, _-_, _*_, _≤_};
 ghost use lib.ListN.{length, take};
 ghost use Rattle.regions.specs.Region.{region};
-ghost use Rattle.order.specs.Graph.{AtNode, graphIn};
+ghost use Rattle.graph.specs.Graph.{AtNode, graphIn};
 ghost use Rattle.order.specs.Fit.{Placing, PlacedAt, Trying, Tried, lookLinks, look};
-use crate::graph::field_at;
-use crate::graph::link_count;
-use crate::run::arrange;
-use answer::ObjectId;
-use answer::Overflow;
-use field::capacity;
-use regions::fill;
 
 pub enum Look {
     Fits,

@@ -2,7 +2,5 @@
 //
 // It knows nothing of sessions. p words are set aside for each array of nodes, the graph lies in the first g words, and n nodes are in it.
 pub mod fit;
-pub mod graph;
+pub mod length;
 pub mod need;
-pub mod pass;
-mod run;

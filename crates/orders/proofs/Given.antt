@@ -12,9 +12,9 @@ use Rattle.model.specs.Object.{widthOk}
 use Rattle.regions.specs.Region.{region, Kept}
 use Rattle.regions.proofs.Laws.{region-length, region-at}
 use Rattle.regions.proofs.Bounds.{top-at}
-use Rattle.order.specs.Graph.{linkOf, linksAt, linkCount, TidyNode, Tidy}
-use Rattle.order.specs.Run.{OrderIds}
-use Rattle.order.proofs.Links.{tidy-kept}
+use Rattle.graph.specs.Graph.{linkOf, linksAt, linkCount, TidyNode, Tidy}
+use Rattle.placing.specs.Run.{OrderIds}
+use Rattle.graph.proofs.Links.{tidy-kept}
 use Rattle.orders.specs.Given.{allBelow, tidyLink, tidyNode, given, Loaded, Ready}
 
 -- what is tested of all numbers below n holds of each

@@ -6,7 +6,7 @@ use mathlib.Core.Bool.{Bool, true, _&&_}
 use lib.ListN.{length, getD, take}
 use lib.Dec.{ltb, leb}
 use Rattle.model.specs.Object.{widthOk}
-use Rattle.order.specs.Graph.{linkOf, linksAt, linkCount}
+use Rattle.graph.specs.Graph.{linkOf, linksAt, linkCount}
 use Rattle.order.specs.Fit.{Trying}
 
 abbrev pub allBelow : ℕ → (ℕ → Bool) → Bool

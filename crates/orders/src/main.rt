@@ -4,7 +4,7 @@ ghost use mathlib.Core.Bool.{true};
 ghost use mathlib.Core.List.{_++_};
 ghost use Prim.Native.Nat.{_+_, _*_, _≤_};
 ghost use lib.ListN.{length};
-ghost use Rattle.order.specs.Run.{OrderIds};
+ghost use Rattle.placing.specs.Run.{OrderIds};
 ghost use Rattle.orders.specs.Given.{given, Loaded, Ready};
 use order::fit::Look;
 use order::fit::try_order;

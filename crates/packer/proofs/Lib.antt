@@ -1,14 +1,1 @@
-pub mod Copying
-pub mod ClosedObjects
-pub mod CopiedGraph
-pub mod Fields
-pub mod Formed
-pub mod Standing
-pub mod Objects
-pub mod Laying
 pub mod Works
-pub mod Packs
-pub mod Orders
-pub mod Demand
-pub mod Program
-pub mod Cases

@@ -26,18 +26,19 @@ use Rattle.model.proofs.Refusals.{Comes, this, next, verdict-is}
 use Rattle.layout.specs.Words.{objectLimit, linkLimit, closedCount, openDepth}
 use Rattle.layout.specs.Decode.{decode}
 use Rattle.layout.specs.Sound.{sound}
-use Rattle.layout.specs.declared.sound.State.{State}
+use Rattle.layout.specs.declared.state.State.{State}
 use Rattle.layout.proofs.Facts.{sound-of}
-use Rattle.session.specs.Steps.{tallyIn}
-use Rattle.session.proofs.Held.{Held}
-use Rattle.order.specs.Pass.{Relaxing, Measured}
+use Rattle.steps.specs.Steps.{tallyIn}
+use Rattle.steps.proofs.Held.{Held}
+use Rattle.reach.specs.Pass.{Relaxing, Measured}
 use Rattle.order.specs.Need.{workNeed}
 use Rattle.order.specs.declared.fit.Look.{Look}
 use Rattle.order.specs.declared.fit.Look.the-variants.{Fits, Over}
-use Rattle.packer.specs.Copy.{Copied, graphEnd}
+use Rattle.copying.specs.Copy.{Copied, graphEnd}
 use Rattle.packer.specs.Pack.{PackOut, packed, cleared, clears, settle, packBy, packStep}
-use Rattle.packer.specs.Lay.{Laying, Laid, lookIn, Packable, Packed}
-use Rattle.packer.proofs.Standing.{stands-kept, tidy-read}
+use Rattle.laying.specs.Lay.{Laying, Laid, lookIn}
+use Rattle.packer.specs.Packable.{Packable, Packed}
+use Rattle.copying.proofs.Standing.{stands-kept, tidy-read}
 
 -- ---- the two tests left once the graph is copied, on a table of n bytes
 

@@ -17,7 +17,7 @@ use Rattle.model.specs.Session.{tableIn}
 use Rattle.layout.specs.Words.{objectLimit, linkLimit}
 use Rattle.layout.specs.Sound.{sound}
 use Rattle.layout.specs.Decode.{decode}
-use Rattle.session.specs.Steps.{tallyIn}
+use Rattle.steps.specs.Steps.{tallyIn}
 use Rattle.order.specs.Need.{workNeed}
 
 pub record PackOut : Type 0 where

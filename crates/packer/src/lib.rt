@@ -1,10 +1,95 @@
-// The eighth call: pack. It ends and answers on any memory, and asks nothing of its caller; the session never changes, and a refused
-// call leaves the output as it was.
+// The eighth call: the objects that a root reaches, packed into table bytes.
 //
+// It ends and answers on any memory, and asks nothing of its caller; the session never changes, and a refused call leaves the output as it was.
 // The other functions do its work on stores that are known to be sound; they are for proved callers.
-pub mod graph;
-mod packing;
-pub mod writing;
+use answer::ObjectId;
+use answer::Packing;
+use answer::Refusal;
+use answer::Tally;
+use copying::copy_graph;
+use counting::tally_sound;
+use laying::lay_first_fit;
+use layout::state::State;
+use layout::state::read;
+use layout::words::LINK_WORDS;
+use order::fit::Look;
+use order::length::table_length;
+use order::need::clear;
+use order::need::work_need;
+use soundness::is_sound;
+ghost use mathlib.Core.Path.{_≡_};
+ghost use mathlib.Core.Bool.{true};
+ghost use Rattle.layout.specs.Sound.{sound};
+ghost use Rattle.packer.specs.Packable.{Packable, Packed};
+ghost use Rattle.packer.specs.Pack.{packed, packStep};
 
-pub use packing::pack;
-pub use packing::pack_sound;
+// The graph copied and its table laid, where the output has room for it. The needed work memory is left as it comes.
+fn pack_graph(
+    store: &[u8],
+    records: &[u32],
+    s: State,
+    t: Tally,
+    root: usize,
+    out: &mut [u8],
+    work: &mut [u64],
+) -> Packing
+    requires { ⌜ Packable (now store) (now records) s t root (now work) ⌝ }
+    ensures { λ r. ⌜ Packed (now (store .entry)) (now (records .entry)) root r (now (out .entry)) (now (out .exit)) (now (work .entry)) (now (work .exit)) ⌝ }
+{
+    copy_graph(store, records, s, work);
+    let p = s.objects;
+    let g = p * 3 + s.links * LINK_WORDS;
+    let size = table_length(work, p, g, s.closed, root) as usize;
+    if out.len() < size {
+        return Packing::Refused(Refusal::OutputShort, t);
+    }
+    let look = lay_first_fit(store, records, s, root, out, work);
+    let Look::Over(o) = look else {
+        return Packing::Done(size, t);
+    };
+    Packing::Refused(Refusal::Overflow(o), t)
+}
+
+pub fn pack_sound(
+    store: &[u8],
+    records: &[u32],
+    id: ObjectId,
+    out: &mut [u8],
+    work: &mut [u64],
+) -> Packing
+    requires { ⌜ sound (now store) (now records) ≡ true ⌝ }
+    ensures { λ r. ⌜ packed r (now (out .exit)) (now (work .exit)) ≡ packStep (id .0) (now (store .entry)) (now (records .entry)) (now (out .entry)) (now (work .entry)) ⌝ }
+{
+    let t = tally_sound(store, records);
+    let s = read(store, records);
+    let root = id.0 as usize;
+    if work.len() < work_need(s.objects as u32, s.links as u32) {
+        return Packing::Refused(Refusal::OutOfRange, Tally::none());
+    }
+    if 0 < t.depth {
+        return Packing::Refused(Refusal::ObjectOpen, t);
+    }
+    if t.objects <= root {
+        return Packing::Refused(Refusal::NotClosed, t);
+    }
+    let answer = pack_graph(store, records, s, t, root, out, work);
+    clear(work, s.objects, s.objects * 3 + s.links * LINK_WORDS);
+    answer
+}
+
+// 12 where the session is not sound, 13 too little work memory, 9 an object open, 4 no such closed object, 10 the output too short,
+// 11 neither order fits.
+pub fn pack(
+    store: &[u8],
+    records: &[u32],
+    id: ObjectId,
+    out: &mut [u8],
+    work: &mut [u64],
+) -> Packing
+    ensures { λ r. ⌜ packed r (now (out .exit)) (now (work .exit)) ≡ packStep (id .0) (now (store .entry)) (now (records .entry)) (now (out .entry)) (now (work .entry)) ⌝ }
+{
+    if is_sound(store, records) {
+        return pack_sound(store, records, id, out, work);
+    }
+    Packing::Refused(Refusal::Unsound, Tally::none())
+}

@@ -1,6 +1,6 @@
 -- By the answer's two cases.
 use mathlib.Core.Path.{refl, ap, sym, _∙_}
-use Rattle.packer.specs.Demand.{toldByPack}
+use Rattle.model.specs.Told.{toldByPack}
 use Rattle.capi.specs.Numbers.{numbers}
 use Rattle.capi.proofs.Given.{same-numbers}
 use borrow.Author.Needs.{needs}

@@ -1,0 +1,65 @@
+-- The closed objects of sound stores: children have lower ids, and fields are in order, apart and inside.
+use mathlib.Core.Path.{_≡_}
+use Prim.Native.Nat.{ℕ, zero, suc, _+_, _<_}
+use mathlib.Core.List.{List, [], _∷_}
+use mathlib.Core.Bool.{true}
+use native.Mathlib.Omega.{arith}
+use lib.ListN.{length}
+use Rattle.lists.proofs.Same.{and-left, and-right}
+use Rattle.lists.proofs.Elements.{at-snoc}
+use Rattle.model.specs.Bag.{count}
+use Rattle.model.specs.Object.{Link, noObject, objectAt}
+use Rattle.model.specs.Graph.{graphOf, kidsOf}
+use Rattle.model.specs.Table.{FieldsIn, Fields}
+use Rattle.model.proofs.Bags.{Same, same, other, sameOr}
+use Rattle.model.proofs.Growth.{Formed, formed-none}
+use Rattle.layout.specs.Tables.{forAll}
+use Rattle.layout.specs.Fields.{fieldsOk, objectOk}
+use Rattle.layout.specs.Words.{closedCount}
+use Rattle.layout.specs.Decode.{closedAt, closedTo, decode}
+use Rattle.layout.specs.Sound.{sound}
+use Rattle.layout.specs.Known.{Sound}
+use Rattle.layout.proofs.Facts.{sound-facts, sound-of}
+use Rattle.steps.proofs.Fields.{first-field, other-fields}
+use Rattle.steps.proofs.Tallies.{length-closed, closed-at}
+
+module _ (kids : ℕ) (bs : List ℕ) where
+  fields-in : (from : ℕ) (ls : List Link) → fieldsOk kids from bs ls ≡ true → FieldsIn from (length bs) ls
+  unfolding FieldsIn
+  fields-in from [] h = tt
+  fields-in from (l ∷ ls) h =
+      let f = first-field kids from bs l ls h in
+      (f .after, f .inside, fields-in (l .at + l .width) ls (other-fields kids from bs l ls h))
+
+  fields-low : (from : ℕ) (ls : List Link) → fieldsOk kids from bs ls ≡ true → (c : ℕ) → 0 < count c (kidsOf ls) → c < kids
+  unfolding kidsOf count
+  fields-low from [] h c k = absurd (omega arith)
+  fields-low from (l ∷ ls) h c k = go (sameOr c (l .child)) (fields-low (l .at + l .width) ls (other-fields kids from bs l ls h) c)
+    where
+      go : Same c (l .child) → (0 < count c (kidsOf ls) → c < kids) → c < kids
+      go (same e _ _) r = rw e (first-field kids from bs l ls h .known)
+      go (other _ _ z) r = r (omega arith)
+
+-- the first n
+closed-formed : (b w : List ℕ) (n : ℕ) → forAll (λ i. objectOk i (closedAt b w i)) n ≡ true → (i : ℕ) → Formed i (objectAt (closedTo b w n) i)
+unfolding closedTo forAll
+closed-formed b w zero h i = formed-none i
+closed-formed b w (suc n) h i =
+    let o = closedAt b w n in
+    let here = and-left (objectOk n o) _ h in
+    at-snoc Formed (closedTo b w n) o noObject (λ j k. closed-formed b w n (and-right (objectOk n o) _ h) j)
+    (rw (length-closed b w n) record { low = fields-low n (o .bytes) 0 (o .links) here; inside = fields-in n (o .bytes) 0 (o .links) here }) i
+
+pub sound-formed : (b w : List ℕ) → sound b w ≡ true → (i : ℕ) → Formed i (objectAt (decode b w .closed) i)
+unfolding decode
+sound-formed b w h = closed-formed b w (closedCount w) (sound-facts b w h .closed)
+
+-- each one's bytes and links, and its fields inside them
+
+pub decoded-at : (b w : List ℕ) (i : ℕ) → i < closedCount w → objectAt (decode b w .closed) i ≡ closedAt b w i
+unfolding decode
+decoded-at b w i h = closed-at b w (closedCount w) i h
+
+pub sound-fields : {b w : List ℕ} → Sound b w → Fields (graphOf (decode b w .closed))
+unfolding Fields
+sound-fields {b} {w} s i = sound-formed b w (sound-of s) i .inside

@@ -1,0 +1,5 @@
+pub mod Copying
+pub mod ClosedObjects
+pub mod CopiedGraph
+pub mod Formed
+pub mod Standing

@@ -1,0 +1,5 @@
+pub mod Packs
+pub mod Orders
+pub mod Demand
+pub mod Program
+pub mod Cases

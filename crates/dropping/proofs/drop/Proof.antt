@@ -1,0 +1,49 @@
+-- By whether the stores are sound.
+use borrow.Author.Needs.{needs}
+use mathlib.Core.Path.{sym, _∙_}
+use Rattle.steps.specs.Steps.{dropStep}
+use Rattle.steps.proofs.Works.{unsound-told}
+use Rattle.dropping.proofs.drop.Statement.{statement}
+use Rattle.dropping.proofs.drop.Tie as tie
+
+is-sound-requires : tie.Need-is-sound-requires
+is-sound-requires c κs = search needs
+
+drop-sound-requires : tie.Need-drop-sound-requires
+drop-sound-requires c κs = sym (c .before .before .before .is-sound .ensures) ∙ c .before .before .if1 .taken
+
+same-length : tie.Need-same-length
+same-length c = search needs
+
+same-length-2 : tie.Need-same-length-2
+same-length-2 c = search needs
+
+returns : tie.Need-returns
+returns c = search needs
+
+none-requires : tie.Need-none-requires
+none-requires c κs = search needs
+
+same-length-3 : tie.Need-same-length-3
+same-length-3 c = search needs
+
+same-length-4 : tie.Need-same-length-4
+same-length-4 c = search needs
+
+returns-2 : tie.Need-returns-2
+unfolding dropStep
+returns-2 c = unsound-told _ _ (c .none .ensures) (sym (c .before .before .is-sound .ensures) ∙ c .before .if1 .left)
+
+pub drop-spec : {M : Type 1} → statement M
+drop-spec =
+    tie.close
+    (tie.spec
+    is-sound-requires
+    drop-sound-requires
+    same-length
+    same-length-2
+    returns
+    none-requires
+    same-length-3
+    same-length-4
+    returns-2)

@@ -1,0 +1,29 @@
+-- `edge_at` meets its contract: the child lies among the nodes, so that its size is its word.
+use native.Mathlib.Omega.{arith}
+use borrow.Author.Needs.{needs}
+use Rattle.graph.proofs.Links.{edge-read}
+use Rattle.graph.proofs.edge_at.Statement.{statement}
+use Rattle.graph.proofs.edge_at.Tie as tie
+
+field-at-requires : tie.Need-field-at-requires
+field-at-requires c κs = search needs
+
+mul-t9 : tie.Need-mul-t9
+mul-t9 c = search needs
+
+shared-slice-read-t11 : tie.Need-shared-slice-read-t11
+shared-slice-read-t11 c = search needs
+
+capacity-requires : tie.Need-capacity-requires
+capacity-requires c κs = search needs
+
+add-t13 : tie.Need-add-t13
+add-t13 c = omega (arith, edge-read (c .before .before .before .before .pre) (c .before .before .field-at .ensures) (c .capacity .ensures) .light)
+
+returns : tie.Need-returns
+returns c = edge-read (c .before .before .before .before .pre) (c .before .before .field-at .ensures) (c .capacity .ensures)
+
+pub edge-at-spec : {M : Type 1} → statement M
+edge-at-spec =
+    tie.close
+    (tie.spec field-at-requires mul-t9 shared-slice-read-t11 capacity-requires add-t13 returns)

@@ -1,0 +1,41 @@
+-- By whether the stores are sound.
+use borrow.Author.Needs.{needs}
+use mathlib.Core.Path.{sym, _∙_}
+use Rattle.steps.specs.Steps.{linkStep}
+use Rattle.steps.proofs.Works.{unsound-told}
+use Rattle.linking.proofs.link.Statement.{statement}
+use Rattle.linking.proofs.link.Tie as tie
+
+is-sound-requires : tie.Need-is-sound-requires
+is-sound-requires c κs = search needs
+
+link-sound-requires : tie.Need-link-sound-requires
+link-sound-requires c κs = sym (c .before .before .is-sound .ensures) ∙ c .before .if1 .taken
+
+same-length : tie.Need-same-length
+same-length c = search needs
+
+returns : tie.Need-returns
+returns c = search needs
+
+none-requires : tie.Need-none-requires
+none-requires c κs = search needs
+
+same-length-2 : tie.Need-same-length-2
+same-length-2 c = search needs
+
+returns-2 : tie.Need-returns-2
+unfolding linkStep
+returns-2 c = unsound-told _ _ (c .none .ensures) (sym (c .before .before .is-sound .ensures) ∙ c .before .if1 .left)
+
+pub link-spec : {M : Type 1} → statement M
+link-spec =
+    tie.close
+    (tie.spec
+    is-sound-requires
+    link-sound-requires
+    same-length
+    returns
+    none-requires
+    same-length-2
+    returns-2)

@@ -1,0 +1,123 @@
+-- Six ways: five refusals in their order, or a link is appended.
+use borrow.Author.Needs.{needs}
+use native.Mathlib.Omega.{arith}
+use Rattle.steps.proofs.Held.{held}
+use Rattle.steps.proofs.Works.{link-none, link-width, link-child, link-full, link-room, link-done, width-most}
+use Rattle.linking.proofs.link_sound.Statement.{statement}
+use Rattle.linking.proofs.link_sound.Tie as tie
+
+tally-sound-requires : tie.Need-tally-sound-requires
+tally-sound-requires c κs = search needs
+
+read-requires : tie.Need-read-requires
+read-requires c κs = search needs
+
+cast-child : tie.Need-cast-child
+cast-child c = search needs
+
+same-length : tie.Need-same-length
+same-length c = search needs
+
+returns : tie.Need-returns
+returns c =
+    let k = c .before .before .before in
+    link-none (held (k .read .ensures) (k .before .before .tally-sound .ensures)) _ _ (c .if1 .taken)
+
+width-ok-requires : tie.Need-width-ok-requires
+width-ok-requires c κs = search needs
+
+same-length-2 : tie.Need-same-length-2
+same-length-2 c = search needs
+
+returns-2 : tie.Need-returns-2
+returns-2 c =
+    let k = c .before .before .before .before .before in
+    let h = held (k .read .ensures) (k .before .before .tally-sound .ensures) in
+    link-width h _ _ (omega arith) (rw (c .before .width-ok .ensures) at (c .if2 .taken))
+
+same-length-3 : tie.Need-same-length-3
+same-length-3 c = search needs
+
+returns-3 : tie.Need-returns-3
+returns-3 c =
+    let i2 = c .before .before in
+    let k = i2 .before .before .before .before .before in
+    let h = held (k .read .ensures) (k .before .before .tally-sound .ensures) in
+    link-child h _ _ (omega arith) (rw (i2 .before .width-ok .ensures) at (i2 .if2 .left)) (c .if3 .taken)
+
+same-length-4 : tie.Need-same-length-4
+same-length-4 c = search needs
+
+returns-4 : tie.Need-returns-4
+returns-4 c =
+    let i3 = c .before .before .before in
+    let i2 = i3 .before .before in
+    let k = i2 .before .before .before .before .before in
+    let h = held (k .read .ensures) (k .before .before .tally-sound .ensures) in
+    link-full h _ _ (omega arith) (rw (i2 .before .width-ok .ensures) at (i2 .if2 .left)) (i3 .if3 .left) (c .if4 .taken)
+
+sub-if5 : tie.Need-sub-if5
+sub-if5 c =
+    let k = c .before .before .before .before .before .before .before .before .before .before .before in
+    let h = held (k .read .ensures) (k .before .before .tally-sound .ensures) in
+    omega arith
+
+same-length-5 : tie.Need-same-length-5
+same-length-5 c = search needs
+
+returns-5 : tie.Need-returns-5
+returns-5 c =
+    let i4 = c .before .before in
+    let i3 = i4 .before .before .before in
+    let i2 = i3 .before .before in
+    let k = i2 .before .before .before .before .before in
+    let h = held (k .read .ensures) (k .before .before .tally-sound .ensures) in
+    link-room h _ _ (omega arith) (rw (i2 .before .width-ok .ensures) at (i2 .if2 .left)) (i3 .if3 .left) (i4 .if4 .left) (omega arith)
+
+append-link-requires : tie.Need-append-link-requires
+append-link-requires c κs =
+    let i2 = c .before .before .before .before .before .before .before .before in
+    let k = i2 .before .before .before .before .before in
+    let h = held (k .read .ensures) (k .before .before .tally-sound .ensures) in
+    (k .read .ensures, omega arith, omega arith, width-most _ (rw (i2 .before .width-ok .ensures) at (i2 .if2 .left)), omega arith)
+
+grow-requires : tie.Need-grow-requires
+grow-requires c κs = search needs
+
+same-length-6 : tie.Need-same-length-6
+same-length-6 c = search needs
+
+returns-6 : tie.Need-returns-6
+returns-6 c =
+    let i5 = c .before .before .before .before .before in
+    let i4 = i5 .before .before in
+    let i3 = i4 .before .before .before in
+    let i2 = i3 .before .before in
+    let k = i2 .before .before .before .before .before in
+    let h = held (k .read .ensures) (k .before .before .tally-sound .ensures) in
+    rw (c .grow .ensures, c .before .before .before .append-link .ensures)
+    (link-done h _ _ (omega arith) (rw (i2 .before .width-ok .ensures) at (i2 .if2 .left)) (i3 .if3 .left) (i4 .if4 .left) (omega (arith, i5 .if5 .left)))
+
+pub link-sound-spec : {M : Type 1} → statement M
+link-sound-spec =
+    tie.close
+    (tie.spec
+    tally-sound-requires
+    read-requires
+    cast-child
+    same-length
+    returns
+    width-ok-requires
+    same-length-2
+    returns-2
+    same-length-3
+    returns-3
+    same-length-4
+    returns-4
+    sub-if5
+    same-length-5
+    returns-5
+    append-link-requires
+    grow-requires
+    same-length-6
+    returns-6)

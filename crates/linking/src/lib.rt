@@ -1,0 +1,73 @@
+// A link appended to the innermost open object, with its own field.
+use answer::Answer;
+use answer::ObjectId;
+use answer::Refusal;
+use answer::Tally;
+use counting::tally_sound;
+use fields::width_ok;
+use layout::state::State;
+use layout::state::read;
+use layout::words::LINK_WORDS;
+use layout::words::store as store_word;
+use layout::words::word;
+use soundness::is_sound;
+ghost use mathlib.Core.Path.{_≡_};
+ghost use mathlib.Core.Bool.{true};
+ghost use Prim.Native.Nat.{_≤_, _<_};
+ghost use Rattle.layout.specs.Sound.{sound};
+ghost use Rattle.layout.specs.Known.{Read};
+ghost use Rattle.layout.specs.Words.{linkTop, linkLow, openDepth};
+ghost use Rattle.steps.specs.Steps.{outcome, linkStep, linkWordsOf};
+
+// The field's zero bytes stand there already: only words change.
+fn append_link(store: &[u8], records: &mut [u32], s: State, width: usize, child: usize)
+    requires { ⌜ Read (now store) (now records) s × (0 < openDepth (now records)) × (linkTop (now records) < linkLow (now records)) × (width ≤ 4) × (child < 4096) ⌝ }
+    ensures { λ _. ⌜ now (records .exit) ≡ linkWordsOf width child (now (records .entry)) ⌝ }
+{
+    let d = s.depth;
+    let top = s.top;
+    let at = top - word(records, 3 + (d - 1));
+    let i = 135 + s.objects * 2 + s.link_top * LINK_WORDS;
+    store_word(records, i, at);
+    store_word(records, i + 1, width);
+    store_word(records, i + 2, child);
+    store_word(records, 3 + d, top + width);
+    store_word(records, 68 + d, s.link_top + 1);
+}
+
+pub fn link_sound(store: &[u8], records: &mut [u32], width: u32, id: ObjectId) -> Answer
+    requires { ⌜ sound (now store) (now records) ≡ true ⌝ }
+    ensures { λ r. ⌜ outcome r (now (store .entry)) (now (records .exit)) ≡ linkStep width (id .0) (now (store .entry)) (now (records .entry)) ⌝ }
+{
+    let t = tally_sound(store, records);
+    let s = read(store, records);
+    let k = width as usize;
+    let child = id.0 as usize;
+    if t.depth == 0 {
+        return Answer::Refused(Refusal::NothingOpen, t);
+    }
+    if !width_ok(k) {
+        return Answer::Refused(Refusal::BadWidth, t);
+    }
+    if t.objects <= child {
+        return Answer::Refused(Refusal::NotClosed, t);
+    }
+    if s.links <= t.links {
+        return Answer::Refused(Refusal::LinksFull, t);
+    }
+    if store.len() - t.bytes < k {
+        return Answer::Refused(Refusal::StoreFull, t);
+    }
+    append_link(store, records, s, k, child);
+    Answer::Done(t.grow(k, 1))
+}
+
+// 12 where the session is not sound, 1 nothing open, 3 a width that is not 2 or 4, 4 no such closed object, 7 no room for a link, 6 none for its field.
+pub fn link(store: &[u8], records: &mut [u32], width: u32, id: ObjectId) -> Answer
+    ensures { λ r. ⌜ outcome r (now (store .entry)) (now (records .exit)) ≡ linkStep width (id .0) (now (store .entry)) (now (records .entry)) ⌝ }
+{
+    if is_sound(store, records) {
+        return link_sound(store, records, width, id);
+    }
+    Answer::Refused(Refusal::Unsound, Tally::none())
+}

@@ -1,0 +1,83 @@
+-- Two ways: 64 objects are open, or three words are stored.
+use borrow.Author.Needs.{needs}
+use native.Mathlib.Omega.{arith}
+use Rattle.steps.proofs.Held.{held}
+use Rattle.steps.proofs.Works.{open-full, open-done}
+use Rattle.opening.proofs.open_sound.Statement.{statement}
+use Rattle.opening.proofs.open_sound.Tie as tie
+
+tally-sound-requires : tie.Need-tally-sound-requires
+tally-sound-requires c κs = search needs
+
+read-requires : tie.Need-read-requires
+read-requires c κs = search needs
+
+same-length : tie.Need-same-length
+same-length c = search needs
+
+returns : tie.Need-returns
+returns c =
+    let k = c .before in
+    open-full (held (k .read .ensures) (k .before .before .tally-sound .ensures)) (c .if1 .taken)
+
+add-store : tie.Need-add-store
+add-store c = search needs
+
+add-store-2 : tie.Need-add-store-2
+add-store-2 c = search needs
+
+store-requires : tie.Need-store-requires
+store-requires c κs = search needs
+
+add-store-3 : tie.Need-add-store-3
+add-store-3 c = search needs
+
+add-store-4 : tie.Need-add-store-4
+add-store-4 c = search needs
+
+store-requires-2 : tie.Need-store-requires-2
+store-requires-2 c κs = search needs
+
+add-store-5 : tie.Need-add-store-5
+add-store-5 c = search needs
+
+store-requires-3 : tie.Need-store-requires-3
+store-requires-3 c κs = search needs
+
+open-requires : tie.Need-open-requires
+open-requires c κs =
+    let k = c .before .before .before .before .before .before .before .before .before .before .before .before .before in
+    let h = held (k .read .ensures) (k .before .before .tally-sound .ensures) in
+    omega (arith, c .before .before .before .before .before .before .before .before .before .before .before .before .if1 .left)
+
+same-length-2 : tie.Need-same-length-2
+same-length-2 c = search needs
+
+returns-2 : tie.Need-returns-2
+returns-2 c =
+    let s3 = c .before .before .before in
+    let s2 = s3 .before .before .before .before in
+    let s1 = s2 .before .before .before .before in
+    let i1 = s1 .before .before in
+    let k = i1 .before in
+    rw (c .«open» .ensures, s3 .store3 .ensures, s2 .store2 .ensures, s1 .store .ensures) (open-done (held (k .read .ensures) (k .before .before .tally-sound .ensures)) (i1 .if1 .left))
+
+pub open-sound-spec : {M : Type 1} → statement M
+open-sound-spec =
+    tie.close
+    (tie.spec
+    tally-sound-requires
+    read-requires
+    same-length
+    returns
+    add-store
+    add-store-2
+    store-requires
+    add-store-3
+    add-store-4
+    store-requires-2
+    add-store-5
+    store-requires-3
+    open-requires
+    same-length-2
+    returns-2)

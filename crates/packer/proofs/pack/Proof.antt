@@ -1,0 +1,39 @@
+-- By whether the stores are sound.
+use borrow.Author.Needs.{needs}
+use mathlib.Core.Path.{sym, _∙_}
+use Rattle.packer.proofs.Works.{pack-unsound}
+use Rattle.packer.proofs.pack.Statement.{statement}
+use Rattle.packer.proofs.pack.Tie as tie
+
+is-sound-requires : tie.Need-is-sound-requires
+is-sound-requires c κs = search needs
+
+pack-sound-requires : tie.Need-pack-sound-requires
+pack-sound-requires c κs = sym (c .before .before .before .is-sound .ensures) ∙ c .before .before .if1 .taken
+
+same-length : tie.Need-same-length
+same-length c = search needs
+
+same-length-2 : tie.Need-same-length-2
+same-length-2 c = search needs
+
+returns : tie.Need-returns
+returns c = search needs
+
+none-requires : tie.Need-none-requires
+none-requires c κs = search needs
+
+returns-2 : tie.Need-returns-2
+returns-2 c = pack-unsound _ _ _ _ _ (c .none .ensures) (sym (c .before .before .is-sound .ensures) ∙ c .before .if1 .left)
+
+pub pack-spec : {M : Type 1} → statement M
+pack-spec =
+    tie.close
+    (tie.spec
+    is-sound-requires
+    pack-sound-requires
+    same-length
+    same-length-2
+    returns
+    none-requires
+    returns-2)

@@ -1,0 +1,84 @@
+-- `pack_sound` meets its contract: three refusals in their order, or the graph is packed and the work memory cleared.
+use borrow.Author.Needs.{needs}
+use native.Mathlib.Omega.{arith}
+use Rattle.steps.proofs.Held.{held}
+use Rattle.packer.proofs.Works.{pack-little, pack-open, pack-unknown, packable, pack-done}
+use Rattle.packer.proofs.pack_sound.Statement.{statement}
+use Rattle.packer.proofs.pack_sound.Tie as tie
+
+tally-sound-requires : tie.Need-tally-sound-requires
+tally-sound-requires c κs = search needs
+
+read-requires : tie.Need-read-requires
+read-requires c κs = search needs
+
+cast-root : tie.Need-cast-root
+cast-root c = search needs
+
+cast-work-need : tie.Need-cast-work-need
+cast-work-need c = search needs
+
+cast-work-need-2 : tie.Need-cast-work-need-2
+cast-work-need-2 c = search needs
+
+work-need-requires : tie.Need-work-need-requires
+work-need-requires c κs = search needs
+
+none-requires : tie.Need-none-requires
+none-requires c κs = search needs
+
+returns : tie.Need-returns
+returns c = pack-little (held (c .before .before .before .before .before .before .read .ensures) (c .before .before .before .before .before .before .before .tally-sound .ensures)) _ _ _ (c .none .ensures) (omega arith)
+
+returns-2 : tie.Need-returns-2
+returns-2 c = pack-open (held (c .before .before .before .before .before .before .before .read .ensures) (c .before .before .before .before .before .before .before .before .tally-sound .ensures)) _ _ _ (omega arith) (omega arith)
+
+returns-3 : tie.Need-returns-3
+returns-3 c = pack-unknown (held (c .before .before .before .before .before .before .before .before .before .read .ensures) (c .before .before .before .before .before .before .before .before .before .before .tally-sound .ensures)) _ _ _ (omega arith) (omega arith) (omega arith)
+
+pack-graph-requires : tie.Need-pack-graph-requires
+pack-graph-requires c κs = packable (held (c .before .before .before .before .before .before .before .before .before .before .before .read .ensures) (c .before .before .before .before .before .before .before .before .before .before .before .before .tally-sound .ensures)) (omega arith) (omega arith)
+
+mul-clear : tie.Need-mul-clear
+mul-clear c = search needs
+
+mul-clear-2 : tie.Need-mul-clear-2
+mul-clear-2 c = search needs
+
+add-clear : tie.Need-add-clear
+add-clear c = search needs
+
+clear-requires : tie.Need-clear-requires
+clear-requires c κs = search needs
+
+same-length : tie.Need-same-length
+same-length c = search needs
+
+same-length-2 : tie.Need-same-length-2
+same-length-2 c = search needs
+
+returns-4 : tie.Need-returns-4
+returns-4 c = pack-done (held (c .before .before .before .before .before .before .before .before .before .before .before .before .before .before .before .before .before .before .before .before .before .before .read .ensures) (c .before .before .before .before .before .before .before .before .before .before .before .before .before .before .before .before .before .before .before .before .before .before .before .tally-sound .ensures)) _ _ _ (omega arith) (omega arith) (omega arith) (c .before .before .before .before .before .before .before .before .before .before .pack-graph .ensures) (c .before .before .clear .ensures)
+
+pub pack-sound-spec : {M : Type 1} → statement M
+pack-sound-spec =
+    tie.close
+    (tie.spec
+    tally-sound-requires
+    read-requires
+    cast-root
+    cast-work-need
+    cast-work-need-2
+    work-need-requires
+    none-requires
+    returns
+    returns-2
+    returns-3
+    pack-graph-requires
+    mul-clear
+    mul-clear-2
+    add-clear
+    clear-requires
+    same-length
+    same-length-2
+    returns-4)

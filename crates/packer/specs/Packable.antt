@@ -1,0 +1,34 @@
+-- What the code of pack asks and promises between 4 and the clearing of the work memory.
+use Prim.Native.Nat.{ℕ, _≤_, _<_}
+use mathlib.Core.Path.{_≡_}
+use mathlib.Core.List.{List, _∷_}
+use lib.ListN.{length}
+use Rattle.regions.specs.Region.{Kept}
+use Rattle.answer.specs.declared.tally.Tally.{Tally}
+use Rattle.answer.specs.declared.Packing.{Packing}
+use Rattle.model.specs.Graph.{graphOf}
+use Rattle.model.specs.Table.{arranged, tableLength}
+use Rattle.model.specs.Judge.{verdict, outputShort, overflows}
+use Rattle.layout.specs.Words.{objectLimit, linkLimit, closedCount}
+use Rattle.layout.specs.Decode.{decode}
+use Rattle.layout.specs.Known.{Read}
+use Rattle.layout.specs.declared.state.State.{State}
+use Rattle.steps.specs.Steps.{tallyIn}
+use Rattle.order.specs.Need.{workNeed}
+use Rattle.packer.specs.Pack.{packed, cleared, packBy}
+
+-- a pack to which 12, 13, 9 and 4 do not apply
+pub record Packable (b w : List ℕ) (s : State) (t : Tally) (root : ℕ) (m : List ℕ) : Type 0 where
+  pub read : Read b w s
+  pub tally : t ≡ tallyIn b w
+  pub known : root < closedCount w
+  pub long : workNeed (objectLimit w) (linkLimit w) ≤ length m
+
+-- it told r by the tests left, and will have done what they ask once the needed work memory is cleared
+pub record Packed (b w : List ℕ) (root : ℕ) (r : Packing) (out out′ m m′ : List ℕ) : Type 0 where
+  pub kept : Kept 0 (workNeed (objectLimit w) (linkLimit w)) m m′
+  pub told :
+      let g = graphOf (decode b w .closed) in
+      let size = tableLength g root in
+      let outcome = arranged g root in
+      packed r out′ (cleared w m) ≡ packBy (verdict (outputShort (length out) size ∷ overflows outcome)) size outcome b w out m

@@ -1,0 +1,7 @@
+pub mod Least
+pub mod Removing
+pub mod Releasing
+pub mod Taking
+pub mod Going
+pub mod Root
+pub mod Arranging

@@ -1,0 +1,95 @@
+-- Three ways: nothing is open, there is no room, or the bytes are copied.
+use borrow.Author.Needs.{needs}
+use native.Mathlib.Omega.{arith}
+use Rattle.steps.proofs.Held.{held}
+use Rattle.steps.proofs.Works.{put-none, put-full, put-done}
+use Rattle.putting.proofs.put_sound.Statement.{statement}
+use Rattle.putting.proofs.put_sound.Tie as tie
+
+tally-sound-requires : tie.Need-tally-sound-requires
+tally-sound-requires c κs = search needs
+
+read-requires : tie.Need-read-requires
+read-requires c κs = search needs
+
+same-length : tie.Need-same-length
+same-length c = search needs
+
+same-length-2 : tie.Need-same-length-2
+same-length-2 c = search needs
+
+returns : tie.Need-returns
+returns c =
+    let k = c .before in
+    put-none (held (k .read .ensures) (k .before .before .before .tally-sound .ensures)) _ (c .if1 .taken)
+
+sub-if2 : tie.Need-sub-if2
+sub-if2 c =
+    let k = c .before .before in
+    let h = held (k .read .ensures) (k .before .before .before .tally-sound .ensures) in
+    omega arith
+
+same-length-3 : tie.Need-same-length-3
+same-length-3 c = search needs
+
+same-length-4 : tie.Need-same-length-4
+same-length-4 c = search needs
+
+returns-2 : tie.Need-returns-2
+returns-2 c =
+    let k = c .before .before .before in
+    put-full (held (k .read .ensures) (k .before .before .before .tally-sound .ensures)) _ (omega arith) (omega arith)
+
+copy-requires : tie.Need-copy-requires
+copy-requires c κs =
+    let k = c .before .before .before .before in
+    let h = held (k .read .ensures) (k .before .before .before .tally-sound .ensures) in
+    omega arith
+
+add-store : tie.Need-add-store
+add-store c = search needs
+
+add-store-2 : tie.Need-add-store-2
+add-store-2 c = search needs
+
+store-requires : tie.Need-store-requires
+store-requires c κs = search needs
+
+grow-requires : tie.Need-grow-requires
+grow-requires c κs = search needs
+
+same-length-5 : tie.Need-same-length-5
+same-length-5 c = search needs
+
+same-length-6 : tie.Need-same-length-6
+same-length-6 c = search needs
+
+returns-3 : tie.Need-returns-3
+returns-3 c =
+    let i2 = c .before .before .before .before .before .before .before .before .before in
+    let i1 = i2 .before .before in
+    let k = i1 .before in
+    let h = held (k .read .ensures) (k .before .before .before .tally-sound .ensures) in
+    rw (c .grow .ensures, c .before .before .before .before .before .before .before .copy .ensures, c .before .before .before .store2 .ensures) (put-done h _ (omega (arith, i1 .if1 .left)) (omega (arith, i2 .if2 .left)))
+
+pub put-sound-spec : {M : Type 1} → statement M
+put-sound-spec =
+    tie.close
+    (tie.spec
+    tally-sound-requires
+    read-requires
+    same-length
+    same-length-2
+    returns
+    sub-if2
+    same-length-3
+    same-length-4
+    returns-2
+    copy-requires
+    add-store
+    add-store-2
+    store-requires
+    grow-requires
+    same-length-5
+    same-length-6
+    returns-3)

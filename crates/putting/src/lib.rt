@@ -1,0 +1,41 @@
+// Bytes appended to the innermost open object.
+use answer::Answer;
+use answer::Refusal;
+use answer::Tally;
+use counting::tally_sound;
+use layout::state::read;
+use layout::words::store as store_word;
+use soundness::is_sound;
+ghost use mathlib.Core.Path.{_≡_};
+ghost use mathlib.Core.Bool.{true};
+ghost use Rattle.layout.specs.Sound.{sound};
+ghost use Rattle.steps.specs.Steps.{outcome, putStep};
+
+pub fn put_sound(store: &mut [u8], records: &mut [u32], bytes: &[u8]) -> Answer
+    requires { ⌜ sound (now store) (now records) ≡ true ⌝ }
+    ensures { λ r. ⌜ outcome r (now (store .exit)) (now (records .exit)) ≡ putStep (now (bytes .entry)) (now (store .entry)) (now (records .entry)) ⌝ }
+{
+    let t = tally_sound(store, records);
+    let s = read(store, records);
+    let d = s.depth;
+    if d == 0 {
+        return Answer::Refused(Refusal::NothingOpen, t);
+    }
+    if store.len() - t.bytes < bytes.len() {
+        return Answer::Refused(Refusal::StoreFull, t);
+    }
+    let top = s.top;
+    memory::bytes::copy(store, top, bytes);
+    store_word(records, 3 + d, top + bytes.len());
+    Answer::Done(t.grow(bytes.len(), 0))
+}
+
+// 12 where the session is not sound, 1 where nothing is open, 6 where the bytes find no room: they are then not read.
+pub fn put(store: &mut [u8], records: &mut [u32], bytes: &[u8]) -> Answer
+    ensures { λ r. ⌜ outcome r (now (store .exit)) (now (records .exit)) ≡ putStep (now (bytes .entry)) (now (store .entry)) (now (records .entry)) ⌝ }
+{
+    if is_sound(store, records) {
+        return put_sound(store, records, bytes);
+    }
+    Answer::Refused(Refusal::Unsound, Tally::none())
+}

@@ -1,0 +1,3 @@
+pub mod Touching
+pub mod Falling
+pub mod Marked

@@ -1,0 +1,43 @@
+// A session begun anew.
+use answer::Answer;
+use answer::Refusal;
+use answer::Tally;
+use layout::words::need;
+use layout::words::store as store_word;
+ghost use mathlib.Core.Path.{_≡_};
+ghost use Prim.Native.Nat.{_≤_, _<_};
+ghost use lib.ListN.{length};
+ghost use Rattle.layout.specs.Words.{need as recordsNeed};
+ghost use Rattle.steps.specs.Steps.{outcome, startStep, startWords};
+
+// The needed words cleared, the limits and the store's length noted.
+fn start_words(records: &mut [u32], objects: u32, links: u32, bytes: usize)
+    requires { ⌜ (objects ≤ 4096) × (bytes ≤ 1048576) × (recordsNeed objects links ≤ length (now records)) ⌝ }
+    ensures { λ _. ⌜ now (records .exit) ≡ startWords (record { objects = objects; links = links; bytes = bytes }) (now (records .entry)) ⌝ }
+{
+    let end = need(objects, links);
+    memory::words::clear(records, 0, end);
+    let p = objects as usize;
+    store_word(records, 0, p);
+    store_word(records, 133, bytes);
+    store_word(records, 134 + p, links as usize);
+}
+
+// 13 where a limit or a store is outside its range, or the record store is short of its need.
+pub fn start(store: &mut [u8], records: &mut [u32], objects: u32, links: u32) -> Answer
+    ensures { λ r. ⌜ outcome r (now (store .exit)) (now (records .exit)) ≡ startStep objects links (now (store .entry)) (now (records .entry)) ⌝ }
+{
+    let n = store.len();
+    let fits = (1 <= objects)
+        & (objects <= 4096)
+        & (links <= 16384)
+        & (1 <= n)
+        & (n <= 1048576)
+        & (need(objects, links) <= records.len());
+    if !fits {
+        return Answer::Refused(Refusal::OutOfRange, Tally::none());
+    }
+    memory::bytes::clear(store, 0, n);
+    start_words(records, objects, links, n);
+    Answer::Done(Tally::none())
+}

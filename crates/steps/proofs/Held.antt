@@ -1,0 +1,54 @@
+-- What a call on sound stores has in hand: the counts and the tally, as numbers.
+use mathlib.Core.Path.{_≡_}
+use Prim.Native.Nat.{ℕ, _+_, _-_, _≤_, _<_}
+use mathlib.Core.List.{List}
+use native.Mathlib.Omega.{arith}
+use lib.ListN.{length, getD}
+use Rattle.answer.specs.declared.tally.Tally.{Tally}
+use Rattle.layout.specs.declared.state.State.{State}
+use Rattle.layout.specs.Words.{openDepth, endsAt, linkEndsAt}
+use Rattle.layout.specs.Known.{Read}
+use Rattle.layout.proofs.Entries.{Rising}
+use Rattle.layout.proofs.Facts.{sound-tables}
+use Rattle.steps.specs.Steps.{tallyIn, under, linkUnder}
+
+pub record Held (b w : List ℕ) (s : State) (t : Tally) : Type 0 where
+  pub counts : Read b w s
+  pub tallyIs : t ≡ tallyIn b w
+  pub bytesIs : t .bytes ≡ s .top + (length b - s .low)
+  pub linksIs : t .links ≡ s .«link_top» + (s .links - s .«link_low»)
+  pub objectsIs : t .objects ≡ s .closed
+  pub depthIs : t .depth ≡ s .depth
+
+pub held : {b w : List ℕ} {s : State} {t : Tally} → Read b w s → t ≡ tallyIn b w → Held b w s t
+held r e =
+    record {
+      counts = r;
+      tallyIs = e;
+      bytesIs = rw (e, r .topIs, r .lowIs);
+      linksIs = rw (e, r .linkTopIs, r .linksIs, r .linkLowIs);
+      objectsIs = rw (e, r .closedIs);
+      depthIs = rw (e, r .depthIs);
+    }
+
+-- ---- the innermost open object: a number read below the last entry of a table of ends
+
+rising-last : (base n : ℕ) (w : List ℕ) → Rising base n w → 0 < n → getD w (base + (n - 1)) 0 ≤ getD w (base + n) 0
+rising-last base n w r h =
+    let e : base + (n - 1) + 1 ≡ base + n = omega arith in
+    rw e at (r .next (n - 1) (omega arith))
+
+pub record Below (x begin end : ℕ) : Type 0 where
+  pub is : x ≡ begin
+  pub order : x ≤ end
+
+module _ {b w : List ℕ} {s : State} {x : ℕ} (r : Read b w s) (some : 0 < s .depth) where
+  pub inner-from : x ≡ getD w (endsAt + (s .depth - 1)) 0 → Below x (under w) (s .top)
+  inner-from e =
+      let is : x ≡ under w = rw (r .depthIs) at e in
+      record { is = is; order = rw (is, r .topIs) (rising-last endsAt (openDepth w) w (sound-tables (r .known) .ends) (omega arith)) }
+
+  pub inner-first : x ≡ getD w (linkEndsAt + (s .depth - 1)) 0 → Below x (linkUnder w) (s .«link_top»)
+  inner-first e =
+      let is : x ≡ linkUnder w = rw (r .depthIs) at e in
+      record { is = is; order = rw (is, r .linkTopIs) (rising-last linkEndsAt (openDepth w) w (sound-tables (r .known) .linkEnds) (omega arith)) }

@@ -1,0 +1,15 @@
+pub mod Tables
+pub mod Fields
+pub mod Tallies
+pub mod Innermost
+pub mod Frames
+pub mod Sides
+pub mod Started
+pub mod Opened
+pub mod Grown
+pub mod Dropped
+pub mod Sealed
+pub mod Steps
+pub mod Runs
+pub mod Held
+pub mod Works

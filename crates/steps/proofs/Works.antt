@@ -1,0 +1,206 @@
+-- Each way through a call's code, as the call's definition has it.
+use mathlib.Core.Path.{_≡_}
+use Prim.Native.Nat.{ℕ, suc, _+_, _-_, _*_, _≤_, _<_}
+use mathlib.Core.List.{List, _∷_, append-assoc}
+use mathlib.Core.Bool.{Bool, true, false, not, _&&_, and-assoc, and-true, false≢true}
+use native.Mathlib.Decide.{decLe}
+use native.Mathlib.Nat.{sub-zero}
+use native.Mathlib.Numerals.{add-one}
+use native.Mathlib.Omega.{arith}
+use borrow.Author.Tests.{eq-eqb, ne-eqb, le-leb, lt-leb, lt-ltb, le-ltb, leb-true, not-false}
+use lib.ListN.{length, set, replicate, length-replicate}
+use lib.Seq.{sets-eq}
+use lib.Dec.{leb, ltb}
+use Rattle.lists.specs.Lists.{over, holds}
+use Rattle.lists.proofs.Holds.{holds-at}
+use Rattle.lists.proofs.Same.{and-left, and-right}
+use Rattle.lists.proofs.Whole.{over-whole}
+use Rattle.answer.specs.Number.{noTally, beside}
+use Rattle.answer.specs.Tally.{opened, grown, released}
+use Rattle.answer.specs.declared.tally.Tally.{Tally}
+use Rattle.answer.specs.declared.Refusal.{Refusal}
+use Rattle.answer.specs.declared.Refusal.the-variants as Refusal
+use Rattle.answer.specs.declared.Answer.the-variants.{Done, Refused}
+use Rattle.model.specs.Object.{Link, widthOk}
+use Rattle.model.specs.Judge.{mostObjects, mostLinks, mostBytes, mostOpen, Verdict, accepted, refused, Test, verdict, unsound, nothingOpen, inRange}
+use Rattle.model.proofs.Refusals.{Comes, none, this, next, verdict-is}
+use Rattle.layout.specs.declared.state.State.{State}
+use Rattle.layout.specs.Words.{closedCount, openDepth, endsAt, linkEndsAt, linksAt, linkWords, need, storeLength, linkLimit, top, linkTop, linkLow, wordsOf}
+use Rattle.layout.specs.Sound.{sound}
+use Rattle.layout.specs.Known.{Read}
+use Rattle.layout.proofs.Facts.{sound-of}
+use Rattle.steps.specs.Steps.{Out, outcome, tallyIn, settle, limitsOf, startWords, startStep, openStep, putStep, under, linkUnder, linkWordsOf, linkStep, droppedBytes, droppedWords, dropStep, tallyStep}
+use Rattle.steps.proofs.Held.{Held}
+
+-- ---- by a verdict
+
+settle-accepted : {ts : List Test} {out : Out} (b w : List ℕ) → Comes ts accepted → out ≡ settle (verdict ts) b w out
+settle-accepted b w c = rw (verdict-is c)
+
+settle-refused : {ts : List Test} {why : Refusal} {b w : List ℕ} {t : Tally} (out : Out) → Comes ts (refused why) → t ≡ beside why (tallyIn b w)
+    → outcome (Refused why t) b w ≡ settle (verdict ts) b w out
+settle-refused out c e = rw (verdict-is c, e)
+
+-- stores that are not sound
+pub unsound-told : (ts : List Test) {b w : List ℕ} (out : Out) {t : Tally} → t ≡ noTally → sound b w ≡ false
+    → outcome (Refused Refusal.Unsound t) b w ≡ settle (verdict (unsound (sound b w) ∷ ts)) b w out
+unsound-told ts out e h = settle-refused out (this (rw h)) e
+
+-- ---- start
+
+-- the tests as the code joins them
+abbrev startable : ℕ → ℕ → ℕ → ℕ → Bool
+startable objects links bytes records =
+    leb 1 objects && leb objects mostObjects && leb links mostLinks && leb 1 bytes && leb bytes mostBytes && leb (need objects links) records
+
+module _ (objects links bytes records : ℕ) where
+  abbrev ranged : Bool
+  ranged = holds (inRange (record { objects = objects; links = links; bytes = bytes }))
+
+  startable-is : startable objects links bytes records ≡ (ranged && leb (need objects links) records)
+  unfolding holds
+  startable-is = simp (and-assoc, and-true)
+
+  pub start-fits : not (startable objects links bytes records) ≡ false → (objects ≤ mostObjects) × (bytes ≤ mostBytes) × (need objects links ≤ records)
+  start-fits k =
+      let h = rw startable-is at (not-false (startable objects links bytes records) k) in
+      let at = holds-at _ (and-left ranged (leb (need objects links) records) h) in
+      (leb-true _ _ (at 1), leb-true _ _ (at 4), leb-true _ _ (and-right ranged (leb (need objects links) records) h))
+
+module _ (objects links : ℕ) (b w : List ℕ) {t : Tally} (e : t ≡ noTally) where
+  pub start-refused : not (startable objects links (length b) (length w)) ≡ true → outcome (Refused Refusal.OutOfRange t) b w ≡ startStep objects links b w
+  unfolding startStep
+  start-refused k = settle-refused _ (this (rw startable-is at k)) e
+
+  pub start-done : not (startable objects links (length b) (length w)) ≡ false
+      → outcome (Done t) (over 0 (replicate (length b - 0) 0) b) (startWords (limitsOf objects links b) w) ≡ startStep objects links b w
+  unfolding startStep
+  start-done k =
+      rw (e, sub-zero (length b), over-whole (replicate (length b) 0) b (length-replicate (length b) 0)) (settle-accepted b w (next (rw startable-is at k) none))
+
+-- ---- tally
+
+pub tally-done : {b w : List ℕ} {t : Tally} → sound b w ≡ true → t ≡ tallyIn b w → outcome (Done t) b w ≡ tallyStep b w
+unfolding tallyStep
+tally-done {b} {w} h e = rw e (settle-accepted b w (next (rw h) none))
+
+module _ {b w : List ℕ} {s : State} {t : Tally} (h : Held b w s t) where
+  -- ---- tests that several calls share
+
+  isSound : not (sound b w) ≡ false
+  isSound = rw (sound-of (h .counts .known))
+
+  idle : {ts : List Test} → s .depth ≡ 0 → Comes (unsound (sound b w) ∷ nothingOpen (tallyIn b w) ∷ ts) (refused Refusal.NothingOpen)
+  idle k = next isSound (this (eq-eqb (openDepth w) 0 (omega arith)))
+
+  ready : {ts : List Test} {v : Verdict} → 0 < s .depth → Comes ts v → Comes (unsound (sound b w) ∷ nothingOpen (tallyIn b w) ∷ ts) v
+  ready k c = next isSound (next (ne-eqb (openDepth w) 0 (λ e. omega arith)) c)
+
+  module _ (n : ℕ) where
+    full : length b < t .bytes + n → ltb (storeLength w) (tallyIn b w .bytes + n) ≡ true
+    full k = lt-ltb (storeLength w) (tallyIn b w .bytes + n) (omega arith)
+
+    roomy : t .bytes + n ≤ length b → ltb (storeLength w) (tallyIn b w .bytes + n) ≡ false
+    roomy k = le-ltb (storeLength w) (tallyIn b w .bytes + n) (omega arith)
+
+  -- ---- open
+
+  pub open-full : mostOpen ≤ s .depth → outcome (Refused Refusal.DepthFull t) b w ≡ openStep b w
+  unfolding openStep
+  open-full k = settle-refused _ (next isSound (this (le-leb mostOpen (openDepth w) (omega arith)))) (h .tallyIs)
+
+  pub open-done : s .depth < mostOpen
+      → outcome (Done (opened t)) b (set (set (set w (endsAt + s .depth + 1) (s .top)) (linkEndsAt + s .depth + 1) (s .«link_top»)) 2 (s .depth + 1)) ≡ openStep b w
+  unfolding openStep
+  open-done k =
+      let r = h .counts in
+      rw (h .tallyIs, r .depthIs, r .topIs, r .linkTopIs) (settle-accepted b w (next isSound (next (lt-leb mostOpen (openDepth w) (omega arith)) none)))
+
+  -- ---- put
+
+  module _ (vs : List ℕ) where
+    pub put-none : s .depth ≡ 0 → outcome (Refused Refusal.NothingOpen t) b w ≡ putStep vs b w
+    unfolding putStep
+    put-none k = settle-refused _ (idle k) (h .tallyIs)
+
+    pub put-full : 0 < s .depth → length b < t .bytes + length vs → outcome (Refused Refusal.StoreFull t) b w ≡ putStep vs b w
+    unfolding putStep
+    put-full some k = settle-refused _ (ready some (this (full (length vs) k))) (h .tallyIs)
+
+    pub put-done : 0 < s .depth → t .bytes + length vs ≤ length b
+        → outcome (Done (grown (length vs) 0 t)) (over (s .top) vs b) (set w (endsAt + s .depth) (s .top + length vs)) ≡ putStep vs b w
+    unfolding putStep
+    put-done some k =
+        let r = h .counts in
+        rw (h .tallyIs, r .depthIs, r .topIs) (settle-accepted b w (ready some (next (roomy (length vs) k) none)))
+
+  -- ---- drop
+
+  pub drop-none : s .depth ≡ 0 → outcome (Refused Refusal.NothingOpen t) b w ≡ dropStep b w
+  unfolding dropStep
+  drop-none k = settle-refused _ (idle k) (h .tallyIs)
+
+  pub drop-done : {from first : ℕ} → 0 < s .depth → from ≡ under w → first ≡ linkUnder w
+      → outcome (Done (released (s .top - from) (s .«link_top» - first) t)) (droppedBytes b w) (droppedWords w) ≡ dropStep b w
+  unfolding dropStep
+  drop-done some e f =
+      let r = h .counts in
+      rw (e, f, h .tallyIs, r .topIs, r .linkTopIs) (settle-accepted b w (ready some none))
+
+  -- ---- link
+
+  module _ (width id : ℕ) where
+    pub link-none : t .depth ≡ 0 → outcome (Refused Refusal.NothingOpen t) b w ≡ linkStep width id b w
+    unfolding linkStep
+    link-none k = settle-refused _ (idle (omega arith)) (h .tallyIs)
+
+    module _ (some : 0 < s .depth) where
+      pub link-width : not (widthOk width) ≡ true → outcome (Refused Refusal.BadWidth t) b w ≡ linkStep width id b w
+      unfolding linkStep
+      link-width k = settle-refused _ (ready some (this k)) (h .tallyIs)
+
+      module _ (wide : not (widthOk width) ≡ false) where
+        pub link-child : t .objects ≤ id → outcome (Refused Refusal.NotClosed t) b w ≡ linkStep width id b w
+        unfolding linkStep
+        link-child k = settle-refused _ (ready some (next wide (this (le-leb (closedCount w) id (omega arith))))) (h .tallyIs)
+
+        module _ (closed : id < t .objects) where
+          known : leb (closedCount w) id ≡ false
+          known = lt-leb (closedCount w) id (omega arith)
+
+          pub link-full : s .links ≤ t .links → outcome (Refused Refusal.LinksFull t) b w ≡ linkStep width id b w
+          unfolding linkStep
+          link-full k = settle-refused _ (ready some (next wide (next known (this (le-leb (linkLimit w) (tallyIn b w .links) (omega arith)))))) (h .tallyIs)
+
+          module _ (left : t .links < s .links) where
+            free : leb (linkLimit w) (tallyIn b w .links) ≡ false
+            free = lt-leb (linkLimit w) (tallyIn b w .links) (omega arith)
+
+            pub link-room : length b < t .bytes + width → outcome (Refused Refusal.StoreFull t) b w ≡ linkStep width id b w
+            unfolding linkStep
+            link-room k = settle-refused _ (ready some (next wide (next known (next free (this (full width k)))))) (h .tallyIs)
+
+            pub link-done : t .bytes + width ≤ length b → outcome (Done (grown width 1 t)) b (linkWordsOf width id w) ≡ linkStep width id b w
+            unfolding linkStep
+            link-done k = rw (h .tallyIs) (settle-accepted b w (ready some (next wide (next known (next free (next (roomy width k) none))))))
+
+-- a width that passes is small
+pub width-most : (n : ℕ) → not (widthOk n) ≡ false → n ≤ 4
+width-most n h = go (decLe n 4)
+  where
+    go : Dec (n ≤ 4) → n ≤ 4
+    go (yes k) = k
+    go (no k) = absurd (false≢true (rw (ne-eqb n 2 (λ e. omega arith), ne-eqb n 4 (λ e. omega arith)) at (not-false (widthOk n) h)))
+
+-- a link's record, stored word by word
+link-stored : (i : ℕ) (l : Link) (w : List ℕ) → i + 2 < length w → set (set (set w i (l .at)) (i + 1) (l .width)) (i + 2) (l .child) ≡ over i (wordsOf l) w
+unfolding over
+link-stored i l w h = let e : i + 2 ≡ suc (suc i) = omega arith in rw (add-one, e) (rw append-assoc at (sets-eq (wordsOf l) w i (omega arith)))
+
+pub append-done : {b w : List ℕ} {s : State} {from : ℕ} (width child : ℕ) → Read b w s → linkTop w < linkLow w → from ≡ under w
+    → let i = 135 + s .objects * 2 + s .«link_top» * linkWords in
+    set (set (set (set (set w i (s .top - from)) (i + 1) width) (i + 2) child) (endsAt + s .depth) (s .top + width)) (linkEndsAt + s .depth) (s .«link_top» + 1)
+    ≡ linkWordsOf width child w
+append-done {w = w} width child r h e =
+    rw (e, r .objectsIs, r .linkTopIs, r .topIs, r .depthIs)
+    (rw (link-stored (linksAt w + linkTop w * linkWords) (record { at = top w - under w; width = width; child = child }) w (omega arith)))
