@@ -18,7 +18,6 @@ use Rattle.layout.specs.Words.{objectLimit, closedCount, openDepth, endsAt, lin
 use Rattle.layout.specs.Sound.{sound}
 use Rattle.layout.specs.Known.{Read}
 use Rattle.layout.specs.declared.state.State.{State}
-use Rattle.layout.proofs.Facts.{sound-of}
 use Rattle.steps.specs.Steps.{tallyIn, under, linkUnder, droppedBytes, droppedWords, closing, twinIn, sealedWords, closeStep}
 use Rattle.steps.proofs.Held.{Held, held, Below, inner-from, inner-first}
 
@@ -29,14 +28,14 @@ close-unsound e h = rw (h, e)
 module _ {b w : List ℕ} {s : State} {t : Tally} (h : Held b w s t) where
   pub close-none : s .depth ≡ 0 → closing (Closing.Refused Refusal.NothingOpen t) b w ≡ closeStep b w
   unfolding closeStep verdict
-  close-none k = rw (sound-of (h .counts .known), eq-eqb (openDepth w) 0 (omega arith), h .tallyIs)
+  close-none k = rw (h .counts .isSound, eq-eqb (openDepth w) 0 (omega arith), h .tallyIs)
 
   isOpen : 0 < s .depth → eqb (openDepth w) 0 ≡ false
   isOpen some = ne-eqb (openDepth w) 0 (λ e. omega arith)
 
   pub close-empty : {from : ℕ} → 0 < s .depth → Below from (under w) (s .top) → s .top ≡ from → closing (Closing.Refused Refusal.EmptyObject t) b w ≡ closeStep b w
   unfolding closeStep verdict
-  close-empty some e k = rw (sound-of (h .counts .known), isOpen some, eq-eqb (top w - under w) 0 (omega arith), h .tallyIs)
+  close-empty some e k = rw (h .counts .isSound, isOpen some, eq-eqb (top w - under w) 0 (omega arith), h .tallyIs)
 
 -- what close has in hand of the innermost open object
 pub record Ready (b w : List ℕ) (s : State) (t : Tally) (from first : ℕ) : Type 0 where
@@ -61,7 +60,7 @@ module _ {b w : List ℕ} {s : State} {t : Tally} {from first : ℕ} (k : Ready 
   close-twin m =
       let h = k .held in
       let r = h .counts in
-      rw (sound-of (r .known), isOpen h (k .some), notEmpty, lt-leb (closedCount w) (twinIn b w) (omega arith), lt-ltb (twinIn b w) (closedCount w) (omega arith))
+      rw (r .isSound, isOpen h (k .some), notEmpty, lt-leb (closedCount w) (twinIn b w) (omega arith), lt-ltb (twinIn b w) (closedCount w) (omega arith))
       (rw (twin, k .bytes .is, k .links .is, h .tallyIs, r .topIs, r .linkTopIs))
 
   module _ (new : s .closed ≤ i) where
@@ -69,7 +68,7 @@ module _ {b w : List ℕ} {s : State} {t : Tally} {from first : ℕ} (k : Ready 
     unfolding closeStep verdict
     close-full m =
         let h = k .held in
-        rw (sound-of (h .counts .known), isOpen h (k .some), notEmpty, le-leb (closedCount w) (twinIn b w) (omega arith), le-leb (objectLimit w) (closedCount w) (omega arith))
+        rw (h .counts .isSound, isOpen h (k .some), notEmpty, le-leb (closedCount w) (twinIn b w) (omega arith), le-leb (objectLimit w) (closedCount w) (omega arith))
         (rw (h .tallyIs))
 
     pub close-new : s .closed < s .objects
@@ -79,7 +78,7 @@ module _ {b w : List ℕ} {s : State} {t : Tally} {from first : ℕ} (k : Ready 
     close-new m =
         let h = k .held in
         let r = h .counts in
-        rw (sound-of (r .known), isOpen h (k .some), notEmpty, le-leb (closedCount w) (twinIn b w) (omega arith), lt-leb (objectLimit w) (closedCount w) (omega arith), le-ltb (twinIn b w) (closedCount w) (omega arith))
+        rw (r .isSound, isOpen h (k .some), notEmpty, le-leb (closedCount w) (twinIn b w) (omega arith), lt-leb (objectLimit w) (closedCount w) (omega arith), le-ltb (twinIn b w) (closedCount w) (omega arith))
         (rw (k .bytes .is, r .topIs, r .lowIs, r .closedIs, h .tallyIs))
 
 -- the words as they are stored

@@ -20,7 +20,6 @@ use Rattle.model.proofs.Reach.{reached-rooted}
 use Rattle.layout.specs.Words.{objectLimit, closedCount}
 use Rattle.layout.specs.Decode.{decode}
 use Rattle.layout.specs.declared.state.State.{State}
-use Rattle.layout.proofs.Facts.{sound-of}
 use Rattle.order.specs.Fit.{Trying, Tried, lookOf, orderWith}
 use Rattle.order.specs.declared.fit.Look.{Look}
 use Rattle.order.specs.declared.fit.Look.the-variants.{Fits, Over}
@@ -66,7 +65,7 @@ module _ {b w : List ℕ} {s : State} {root room : ℕ} {m : List ℕ} (c : Layi
 
   acyclic : Acyclic g
   unfolding Ranked
-  acyclic p k h = sound-formed b w (sound-of (c .read .known)) p .low k h
+  acyclic p k h = sound-formed b w (c .read .isSound) p .low k h
 
   pub lay-trying : Trying (s .objects) (s .objects * 3 + s .links * 3) (s .closed) root m
   lay-trying = record {

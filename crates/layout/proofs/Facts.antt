@@ -13,7 +13,8 @@ use Rattle.model.specs.Judge.{mostObjects, mostLinks, mostBytes, mostOpen, inRa
 use Rattle.layout.specs.Tables.{rises, falls}
 use Rattle.layout.specs.Words.{objectLimit, closedCount, openDepth, endsAt, linkEndsAt, beginsAt, linkBeginsAt, need, storeLength, linkLimit, limitsIn, ends, linkEnds, begins, linkBegins, top, linkTop, low, linkLow}
 use Rattle.layout.specs.Sound.{headTests, headOk, tableTests, soundTests, sound}
-use Rattle.layout.specs.Known.{Head, Sound}
+use Rattle.layout.specs.Known.{Head, Sound, Read}
+use Rattle.layout.specs.declared.state.State.{State}
 use Rattle.layout.proofs.Entries.{Rising, Falling, rising-table, falling-table}
 
 pub head-facts : (n : ℕ) (w : List ℕ) → headOk n w ≡ true → Head n w
@@ -129,3 +130,6 @@ sound-facts b w h =
 pub sound-of : {b w : List ℕ} → Sound b w → sound b w ≡ true
 unfolding sound soundTests holds
 sound-of s = simp (head-of (s .head), tables-of s, s .gap, s .opens, s .closed)
+
+pub sound-known : {b w : List ℕ} {s : State} → Read b w s → Sound b w
+sound-known r = sound-facts _ _ (r .isSound)

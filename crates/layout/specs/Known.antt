@@ -1,7 +1,7 @@
 -- What sound stores are known to have, by name: numbers that the code of the calls leans on.
 use mathlib.Core.Path.{_≡_}
 use mathlib.Core.Bool.{true}
-use Prim.Native.Nat.{ℕ, _≤_}
+use Prim.Native.Nat.{ℕ, _+_, _*_, _≤_}
 use mathlib.Core.List.{List}
 use lib.ListN.{length, getD}
 use Rattle.lists.specs.Lists.{part, zeros}
@@ -9,6 +9,7 @@ use Rattle.layout.specs.Tables.{rises, falls, forAll}
 use Rattle.layout.specs.Words.{objectLimit, closedCount, openDepth, endsAt, linkEndsAt, need, storeLength, linkLimit, ends, linkEnds, begins, linkBegins, top, linkTop, low, linkLow}
 use Rattle.layout.specs.Fields.{objectOk}
 use Rattle.layout.specs.Decode.{openAt, closedAt}
+use Rattle.layout.specs.Sound.{sound}
 use Rattle.layout.specs.declared.state.State.{State}
 
 pub record Head (n : ℕ) (w : List ℕ) : Type 0 where
@@ -38,7 +39,22 @@ pub record Sound (b w : List ℕ) : Type 0 where
   pub opens : forAll (λ d. objectOk (closedCount w) (openAt b w d)) (openDepth w) ≡ true
   pub closed : forAll (λ i. objectOk i (closedAt b w i)) (closedCount w) ≡ true
 
--- the counts and the edges, as read from sound stores
+-- what is known of the counts and the edges of sound stores, for stores of n bytes and r words
+pub record Bounds (n r : ℕ) (s : State) : Type 0 where
+  pub some : 1 ≤ s .objects
+  pub few : s .objects ≤ 4096
+  pub fewLinks : s .links ≤ 16384
+  pub full : 1 ≤ n
+  pub most : n ≤ 1048576
+  pub room : 135 + s .objects * 2 + s .links * 3 ≤ r
+  pub closed : s .closed ≤ s .objects
+  pub depth : s .depth ≤ 64
+  pub apart : s .top ≤ s .low
+  pub inside : s .low ≤ n
+  pub linkApart : s .«link_top» ≤ s .«link_low»
+  pub linkInside : s .«link_low» ≤ s .links
+
+-- the counts and the edges, as read from sound stores; that these are sound is one equation, which no arithmetic goes into
 pub record Read (b w : List ℕ) (s : State) : Type 0 where
   pub objectsIs : s .objects ≡ objectLimit w
   pub linksIs : s .links ≡ linkLimit w
@@ -48,4 +64,5 @@ pub record Read (b w : List ℕ) (s : State) : Type 0 where
   pub lowIs : s .low ≡ low w
   pub linkTopIs : s .«link_top» ≡ linkTop w
   pub linkLowIs : s .«link_low» ≡ linkLow w
-  pub known : Sound b w
+  pub bounds : Bounds (length b) (length w) s
+  pub isSound : sound b w ≡ true

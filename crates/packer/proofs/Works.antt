@@ -27,7 +27,6 @@ use Rattle.layout.specs.Words.{objectLimit, linkLimit, closedCount, openDepth}
 use Rattle.layout.specs.Decode.{decode}
 use Rattle.layout.specs.Sound.{sound}
 use Rattle.layout.specs.declared.state.State.{State}
-use Rattle.layout.proofs.Facts.{sound-of}
 use Rattle.steps.specs.Steps.{tallyIn}
 use Rattle.steps.proofs.Held.{Held}
 use Rattle.reach.specs.Pass.{Relaxing, Measured}
@@ -135,7 +134,7 @@ module _ {b w : List ℕ} {s : State} {t : Tally} (h : Held b w s t) (id : ℕ) 
   need = workNeed (s .objects) (s .links)
 
   isSound : not (sound b w) ≡ false
-  isSound = rw (sound-of (h .counts .known))
+  isSound = rw (h .counts .isSound)
 
   pub pack-little : {z : Tally} → z ≡ noTally → length m < need → packed (Refused Refusal.OutOfRange z) out m ≡ packStep id b w out m
   unfolding packStep

@@ -16,7 +16,7 @@ use Rattle.layout.specs.Words.{openDepth, closedCount, endsAt, linkEndsAt, begi
 use Rattle.layout.specs.Decode.{closedAt, closedTo}
 use Rattle.layout.specs.Known.{Sound, Read}
 use Rattle.layout.specs.declared.state.State.{State}
-use Rattle.layout.proofs.Facts.{sound-tables}
+use Rattle.layout.proofs.Facts.{sound-tables, sound-known}
 use Rattle.layout.proofs.Objects.{Seen, open-seen, closed-seen}
 use Rattle.steps.specs.Steps.{inner, twinIn}
 use Rattle.steps.proofs.Tallies.{length-closed, closed-at}
@@ -122,10 +122,10 @@ pub look-first : {b w : List ℕ} {s : State} (own first : ℕ) → Read b w s �
 look-first {b} {w} {s} own first r h p q =
     let base : 135 + s .objects * 2 ≡ linksAt w = omega (arith, r .objectsIs) in
     let below : (at : ℕ) → at + openDepth w - 1 ≡ at + (s .depth - 1) = λ at. omega (arith, r .depthIs) in
-    let seen = open-seen b w (r .known .head) (sound-tables (r .known)) (openDepth w) own (s .top) first (s .«link_top») h (omega arith)
+    let seen = open-seen b w (sound-known r .head) (sound-tables (sound-known r)) (openDepth w) own (s .top) first (s .«link_top») h (omega arith)
     (rw (below endsAt) p) (r .topIs) (rw (below linkEndsAt) q) (r .linkTopIs) in
     record {
-      ground = record { sound = r .known; baseIs = base; beginsIs = omega (arith, r .objectsIs); closedIs = r .closedIs; innerLies = lies (135 + s .objects * 2) base seen };
+      ground = record { sound = sound-known r; baseIs = base; beginsIs = omega (arith, r .objectsIs); closedIs = r .closedIs; innerLies = lies (135 + s .objects * 2) base seen };
       within = omega arith;
       twinIs = twin-first b w;
     }

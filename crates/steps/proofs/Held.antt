@@ -9,7 +9,7 @@ use Rattle.layout.specs.declared.state.State.{State}
 use Rattle.layout.specs.Words.{openDepth, endsAt, linkEndsAt}
 use Rattle.layout.specs.Known.{Read}
 use Rattle.layout.proofs.Entries.{Rising}
-use Rattle.layout.proofs.Facts.{sound-tables}
+use Rattle.layout.proofs.Facts.{sound-tables, sound-known}
 use Rattle.steps.specs.Steps.{tallyIn, under, linkUnder}
 
 pub record Held (b w : List ℕ) (s : State) (t : Tally) : Type 0 where
@@ -46,9 +46,9 @@ module _ {b w : List ℕ} {s : State} {x : ℕ} (r : Read b w s) (some : 0 < s .
   pub inner-from : x ≡ getD w (endsAt + (s .depth - 1)) 0 → Below x (under w) (s .top)
   inner-from e =
       let is : x ≡ under w = rw (r .depthIs) at e in
-      record { is = is; order = rw (is, r .topIs) (rising-last endsAt (openDepth w) w (sound-tables (r .known) .ends) (omega arith)) }
+      record { is = is; order = rw (is, r .topIs) (rising-last endsAt (openDepth w) w (sound-tables (sound-known r) .ends) (omega arith)) }
 
   pub inner-first : x ≡ getD w (linkEndsAt + (s .depth - 1)) 0 → Below x (linkUnder w) (s .«link_top»)
   inner-first e =
       let is : x ≡ linkUnder w = rw (r .depthIs) at e in
-      record { is = is; order = rw (is, r .linkTopIs) (rising-last linkEndsAt (openDepth w) w (sound-tables (r .known) .linkEnds) (omega arith)) }
+      record { is = is; order = rw (is, r .linkTopIs) (rising-last linkEndsAt (openDepth w) w (sound-tables (sound-known r) .linkEnds) (omega arith)) }

@@ -28,7 +28,7 @@ use Rattle.layout.specs.declared.state.State.{State}
 use Rattle.layout.specs.Words.{closedCount, openDepth, endsAt, linkEndsAt, linksAt, linkWords, need, storeLength, linkLimit, top, linkTop, linkLow, wordsOf}
 use Rattle.layout.specs.Sound.{sound}
 use Rattle.layout.specs.Known.{Read}
-use Rattle.layout.proofs.Facts.{sound-of}
+use Rattle.layout.proofs.Facts.{sound-known}
 use Rattle.steps.specs.Steps.{Out, outcome, tallyIn, settle, limitsOf, startWords, startStep, openStep, putStep, under, linkUnder, linkWordsOf, linkStep, droppedBytes, droppedWords, dropStep, tallyStep}
 use Rattle.steps.proofs.Held.{Held}
 
@@ -88,7 +88,7 @@ module _ {b w : List ℕ} {s : State} {t : Tally} (h : Held b w s t) where
   -- ---- tests that several calls share
 
   isSound : not (sound b w) ≡ false
-  isSound = rw (sound-of (h .counts .known))
+  isSound = rw (h .counts .isSound)
 
   idle : {ts : List Test} → s .depth ≡ 0 → Comes (unsound (sound b w) ∷ nothingOpen (tallyIn b w) ∷ ts) (refused Refusal.NothingOpen)
   idle k = next isSound (this (eq-eqb (openDepth w) 0 (omega arith)))
@@ -96,12 +96,15 @@ module _ {b w : List ℕ} {s : State} {t : Tally} (h : Held b w s t) where
   ready : {ts : List Test} {v : Verdict} → 0 < s .depth → Comes ts v → Comes (unsound (sound b w) ∷ nothingOpen (tallyIn b w) ∷ ts) v
   ready k c = next isSound (next (ne-eqb (openDepth w) 0 (λ e. omega arith)) c)
 
+  sizeIs : storeLength w ≡ length b
+  sizeIs = sound-known (h .counts) .head .size
+
   module _ (n : ℕ) where
     full : length b < t .bytes + n → ltb (storeLength w) (tallyIn b w .bytes + n) ≡ true
-    full k = lt-ltb (storeLength w) (tallyIn b w .bytes + n) (omega arith)
+    full k = lt-ltb (storeLength w) (tallyIn b w .bytes + n) (omega (arith, sizeIs))
 
     roomy : t .bytes + n ≤ length b → ltb (storeLength w) (tallyIn b w .bytes + n) ≡ false
-    roomy k = le-ltb (storeLength w) (tallyIn b w .bytes + n) (omega arith)
+    roomy k = le-ltb (storeLength w) (tallyIn b w .bytes + n) (omega (arith, sizeIs))
 
   -- ---- open
 

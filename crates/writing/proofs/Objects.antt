@@ -19,7 +19,7 @@ use Rattle.model.proofs.Tables.{object-length}
 use Rattle.layout.specs.Words.{objectLimit, closedCount, beginsAt}
 use Rattle.layout.specs.Decode.{decode}
 use Rattle.layout.specs.declared.state.State.{State}
-use Rattle.layout.proofs.Facts.{sound-tables}
+use Rattle.layout.proofs.Facts.{sound-tables, sound-known}
 use Rattle.graph.specs.Graph.{graphIn, AtNode}
 use Rattle.order.specs.Fit.{offsetBy}
 use Rattle.copying.specs.Copy.{graphEnd}
@@ -111,7 +111,7 @@ module _ {b w m : List ℕ} {s : State} {r room : ℕ} (c : Writing b w s m r ro
 
     object-size : length object ≡ graphAt b w .size (idAt s m t)
     unfolding object Sized
-    object-size = object-length (graphAt b w) (content (decode b w)) (placeOf (graphAt b w) (orderIn w m r)) (λ k. refl) (sound-fields (c .read .known)) (idAt s m t)
+    object-size = object-length (graphAt b w) (content (decode b w)) (placeOf (graphAt b w) (orderIn w m r)) (λ k. refl) (sound-fields (sound-known (c .read))) (idAt s m t)
 
     rest-is : rest b w m r t ≡ object ++ rest b w m r (t + 1)
     unfolding tableFrom object
@@ -132,14 +132,14 @@ module _ {b w m : List ℕ} {s : State} {r room : ℕ} (c : Writing b w s m r ro
       bytes-are = rw (from-is, end-is) (sym (ap (λ (o : Object). o .bytes) (decoded-at b w (idAt s m t) object-known)))
 
       pub bytes-order : from ≤ end
-      bytes-order = rw (from-is, end-is) (omega (arith, sound-tables (c .read .known) .begins .next (idAt s m t) object-known))
+      bytes-order = rw (from-is, end-is) (omega (arith, sound-tables (sound-known (c .read)) .begins .next (idAt s m t) object-known))
 
       pub bytes-inside : end ≤ length b
-      bytes-inside = rw end-is (omega (arith, sound-tables (c .read .known) .begins .under (idAt s m t) (omega (arith, object-known))))
+      bytes-inside = rw end-is (omega (arith, sound-known (c .read) .head .size, sound-tables (sound-known (c .read)) .begins .under (idAt s m t) (omega (arith, object-known))))
 
       pub object-fields : FieldsIn 0 (length (part from end b)) (graphIn (s .objects) (s .closed) (take (front s) m) .links (idAt s m t))
       unfolding Fields
-      object-fields = rw (bytes-are, links-are) (sound-fields (c .read .known) (idAt s m t))
+      object-fields = rw (bytes-are, links-are) (sound-fields (sound-known (c .read)) (idAt s m t))
 
       module _ {d₀ d : List ℕ} (o : Objects b w m r t d₀ d) (fits : length d₀ ≡ room) where
         next-place : o .next ≡ placeAt s m t

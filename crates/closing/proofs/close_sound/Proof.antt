@@ -5,6 +5,7 @@ use Rattle.closing.proofs.close_sound.Statement.{statement}
 use Rattle.closing.proofs.close_sound.Tie as tie
 use borrow.Author.Needs.{needs}
 use native.Mathlib.Omega.{arith}
+use Rattle.layout.proofs.Facts.{sound-known}
 
 inner : (c : tie.After-word2)
     → let v = c .before .before .before in
@@ -67,7 +68,7 @@ forget-requires : tie.Need-forget-requires
 forget-requires c κs =
     let k = inner (c .before .before .before .before .before .before .before) in
     let r = k .held .counts in
-    (r .known, r .depthIs, k .some, k .bytes .is, r .topIs, k .bytes .order)
+    (sound-known r, r .depthIs, k .some, k .bytes .is, r .topIs, k .bytes .order)
 
 cast-t36 : tie.Need-cast-t36
 cast-t36 c = search needs

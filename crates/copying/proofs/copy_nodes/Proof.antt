@@ -3,6 +3,7 @@ use borrow.Author.Needs.{needs}
 use Prim.Native.Nat.{_≤_, _-_}
 use native.Mathlib.Omega.{arith}
 use lib.ListN.{length-set}
+use Rattle.layout.proofs.Facts.{sound-known}
 use Rattle.copying.specs.Copy.{NodesCopied}
 use Rattle.copying.proofs.Copying.{nodes-none, nodes-all, node-read, nodes-next}
 use Rattle.copying.proofs.ClosedObjects.{entries}
@@ -48,7 +49,7 @@ word-requires-3 c κs = search needs
 sub-work : tie.Need-sub-work Inv-loop μ-loop
 sub-work c =
     let read = c .before .before .before .before .before .before .before .before .pre .0 in
-    let o = entries (read .known) (c .before .before .before .before .loop .i) (omega arith) in
+    let o = entries (sound-known read) (c .before .before .before .before .loop .i) (omega arith) in
     omega arith
 
 mul-work : tie.Need-mul-work Inv-loop μ-loop
@@ -75,7 +76,7 @@ word-requires-4 c κs = search needs
 sub-work-2 : tie.Need-sub-work-2 Inv-loop μ-loop
 sub-work-2 c =
     let read = c .before .before .before .before .before .before .before .before .before .pre .0 in
-    let o = entries (read .known) (c .before .before .before .before .before .loop .i) (omega arith) in
+    let o = entries (sound-known read) (c .before .before .before .before .before .loop .i) (omega arith) in
     omega (arith, rw (read .objectsIs) at (c .before .before .word2 .ensures .0), rw (read .objectsIs) at (c .word4 .ensures .0))
 
 mul-work-3 : tie.Need-mul-work-3 Inv-loop μ-loop

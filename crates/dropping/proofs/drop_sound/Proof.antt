@@ -2,6 +2,7 @@
 use borrow.Author.Needs.{needs}
 use Prim.Native.Nat.{_<_}
 use native.Mathlib.Omega.{arith}
+use Rattle.layout.proofs.Facts.{sound-known}
 use Rattle.steps.proofs.Held.{held, inner-from, inner-first}
 use Rattle.steps.proofs.Works.{drop-none, drop-done}
 use Rattle.dropping.proofs.drop_sound.Statement.{statement}
@@ -49,7 +50,7 @@ forget-requires : tie.Need-forget-requires
 forget-requires c κs =
     let r = c .before .before .before .before .before .before .before .before .read .ensures in
     let f = inner-from r (omega arith) (c .before .before .before .before .before .word .ensures .0) in
-    (r .known, r .depthIs, omega arith, f .is, r .topIs, f .order)
+    (sound-known r, r .depthIs, omega arith, f .is, r .topIs, f .order)
 
 sub-release : tie.Need-sub-release
 sub-release c =

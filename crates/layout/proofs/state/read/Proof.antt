@@ -53,16 +53,38 @@ returns c =
     let d = c3 .word3 .ensures .0 in
     let k = c3 .before .word2 .ensures .0 in
     let p = c3 .before .before .word .ensures .0 in
+    let h = c3 .before .before .before .before .before .pre in
+    let links = rw p at (c .before .before .before .before .word4 .ensures .0) in
+    let top = rw d at (c .before .before .before .word5 .ensures .0) in
+    let low = rw k at (c .before .before .word6 .ensures .0) in
+    let linkTop = rw d at (c .before .word7 .ensures .0) in
+    let linkLow = rw (p, k) at (c .word8 .ensures .0) in
+    let f = sound-facts _ _ h in
     record {
       objectsIs = p;
-      linksIs = rw p at (c .before .before .before .before .word4 .ensures .0);
+      linksIs = links;
       closedIs = k;
       depthIs = d;
-      topIs = rw d at (c .before .before .before .word5 .ensures .0);
-      lowIs = rw k at (c .before .before .word6 .ensures .0);
-      linkTopIs = rw d at (c .before .word7 .ensures .0);
-      linkLowIs = rw (p, k) at (c .word8 .ensures .0);
-      known = sound-facts _ _ (c3 .before .before .before .before .before .pre);
+      topIs = top;
+      lowIs = low;
+      linkTopIs = linkTop;
+      linkLowIs = linkLow;
+      bounds =
+        record {
+          some = rw p (f .head .some);
+          few = rw p (f .head .few);
+          fewLinks = rw links (f .head .fewLinks);
+          full = f .head .full;
+          most = f .head .most;
+          room = rw (p, links) (f .head .room);
+          closed = rw (p, k) (f .head .closed);
+          depth = rw d (f .head .depth);
+          apart = rw (top, low) (f .apart);
+          inside = rw low (f .inside);
+          linkApart = rw (linkTop, linkLow) (f .linkApart);
+          linkInside = rw (links, linkLow) (f .linkInside);
+        };
+      isSound = h;
     }
 
 pub read-spec : {M : Type 1} → statement M
