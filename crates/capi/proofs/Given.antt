@@ -10,7 +10,7 @@ use Rattle.answer.specs.declared.Packing.{Packing}
 use Rattle.steps.specs.Steps.{Out, CloseOut, outcome, closing}
 use Rattle.steps.specs.Runs.{leftBy, leftByClose}
 use Rattle.model.specs.Told.{toldBy, toldByClose, toldByPack}
-use Rattle.packer.specs.Pack.{PackOut, packed}
+use Rattle.steps.specs.Pack.{PackOut, packed}
 use Rattle.capi.specs.declared.numbers.Numbers.{Numbers}
 use Rattle.capi.specs.Numbers.{numbers, given, givenBy, packGiven, packGivenBy}
 

@@ -3,7 +3,7 @@ use Prim.Native.Nat.{ℕ}
 use mathlib.Core.List.{List}
 use Rattle.model.specs.Told.{Told, toldByPack}
 use Rattle.steps.specs.Runs.{Left}
-use Rattle.packer.specs.Pack.{PackOut}
+use Rattle.steps.specs.Pack.{PackOut}
 use Rattle.capi.specs.declared.numbers.Numbers.{Numbers}
 
 -- paper 01's number and values, in the order of the struct

@@ -1,7 +1,7 @@
 // How many words to lend for given limits.
 ghost use mathlib.Core.Path.{_≡_};
 ghost use Rattle.layout.specs.Words.{need};
-ghost use Rattle.order.specs.Need.{workNeed};
+ghost use Rattle.layout.specs.Need.{workNeed};
 
 // Of u32, for the record store.
 #[no_mangle]

@@ -3,7 +3,7 @@ use crate::numbers::Numbers;
 use crate::numbers::tell_pack;
 use answer::ObjectId;
 ghost use mathlib.Core.Path.{_≡_};
-ghost use Rattle.packer.specs.Pack.{packStep};
+ghost use Rattle.steps.specs.Pack.{packStep};
 ghost use Rattle.capi.specs.Numbers.{packGiven, packGivenBy};
 
 #[no_mangle]

@@ -9,7 +9,7 @@ use Rattle.model.specs.Graph.{graphOf}
 use Rattle.layout.specs.Words.{objectLimit, linkLimit, closedCount, beginsAt, linkBeginsAt, linksAt}
 use Rattle.layout.specs.Decode.{decode}
 use Rattle.graph.specs.Graph.{graphIn, Tidy}
-use Rattle.order.specs.Need.{graphWords}
+use Rattle.layout.specs.Need.{graphWords}
 
 -- how many words the graph takes
 abbrev pub graphEnd : List ℕ → ℕ

@@ -15,12 +15,12 @@ use Rattle.model.proofs.Verdicts.{refused-number}
 use Rattle.model.proofs.Closings.{Known, known-alike, known-closed, Starts, known-after}
 use Rattle.model.proofs.Mirrors.{Mirrors, mirrors-started}
 use Rattle.model.proofs.Agreement.{call-agrees, call-mirrors}
-use Rattle.order.specs.Need.{workNeed}
+use Rattle.layout.specs.Need.{workNeed}
 use Rattle.steps.specs.Steps.{limitsOf}
 use Rattle.steps.specs.Runs.{start, open', put, link, close, drop, tally, Stores, stepOn, asCall, Drawn}
 use Rattle.steps.proofs.Steps.{step-drawn, start-drawn}
 use Rattle.steps.proofs.Runs.{never-unsound}
-use Rattle.packer.specs.Pack.{PackOut}
+use Rattle.steps.specs.Pack.{PackOut}
 use Rattle.demand.specs.Demand.{LentCall, onStores, pack as packOn, LentLeft, lentStep, asLent, needs, PackClaim, Claim, Made, run, Closes, NoStart, KeepsId, AllClaim}
 use Rattle.demand.proofs.Packs.{PackFollows, pack-follows}
 

@@ -25,8 +25,8 @@ use Rattle.layout.specs.Words.{objectLimit, linkLimit, closedCount, openDepth}
 use Rattle.layout.specs.Decode.{decode}
 use Rattle.layout.specs.Sound.{sound}
 use Rattle.steps.specs.Steps.{tallyIn}
-use Rattle.order.specs.Need.{workNeed}
-use Rattle.packer.specs.Pack.{PackOut, packed, cleared, settle, packStep}
+use Rattle.layout.specs.Need.{workNeed}
+use Rattle.steps.specs.Pack.{PackOut, packed, cleared, settle, packStep}
 use Rattle.demand.proofs.Packs.{placed-laid}
 
 -- ---- the two orders

@@ -28,8 +28,8 @@ use Rattle.layout.specs.Sound.{sound}
 use Rattle.steps.specs.Runs.{Stores, Drawn}
 use Rattle.steps.specs.Steps.{tallyIn}
 use Rattle.steps.proofs.Tallies.{tally-decode, limits-decode}
-use Rattle.order.specs.Need.{workNeed}
-use Rattle.packer.specs.Pack.{PackOut, packed, cleared, settle, packStep}
+use Rattle.layout.specs.Need.{workNeed}
+use Rattle.steps.specs.Pack.{PackOut, packed, cleared, settle, packStep}
 use Rattle.demand.specs.Demand.{needs}
 use Rattle.copying.proofs.Formed.{sound-formed}
 

@@ -28,7 +28,7 @@ use Rattle.dropping.proofs.drop.Kinds as drop-kinds
 use Rattle.dropping.proofs.drop.Reads as drop-reads
 use Rattle.counting.proofs.tally.Kinds as tally-kinds
 use Rattle.counting.proofs.tally.Reads as tally-reads
-use Rattle.packer.specs.Pack.{PackOut}
+use Rattle.steps.specs.Pack.{PackOut}
 use Rattle.demand.specs.Demand.{LentCall, onStores, pack as packOn, LentLeft, lentStep, Made, run, AllClaim}
 use Rattle.packer.proofs.pack.Kinds as pack-kinds
 use Rattle.packer.proofs.pack.Reads as pack-reads

@@ -12,7 +12,7 @@ use Rattle.model.specs.Session.{SessionCall, startCall, openCall, putCall, link
 use Rattle.model.specs.Cases.{Case, idsIn}
 use Rattle.layout.specs.Words.{need}
 use Rattle.steps.specs.Runs.{StoreCall, start, open', put, link, close, drop, tally}
-use Rattle.order.specs.Need.{workNeed}
+use Rattle.layout.specs.Need.{workNeed}
 use Rattle.demand.specs.Demand.{LentCall, onStores, pack, Made, run}
 
 abbrev stale : ℕ

@@ -13,8 +13,8 @@ use Rattle.model.specs.Session.{Needs, Call, sessionCall, packCall}
 use Rattle.model.specs.History.{History, inner, counts, expected, after, Alike}
 use Rattle.layout.specs.Sound.{sound}
 use Rattle.steps.specs.Runs.{StoreCall, start, close, Stores, stepOn, asCall, needsWith}
-use Rattle.order.specs.Need.{workNeed}
-use Rattle.packer.specs.Pack.{packStep}
+use Rattle.layout.specs.Need.{workNeed}
+use Rattle.steps.specs.Pack.{packStep}
 
 -- ---- the eight calls: a pack with its root and with what the output and the work memory hold
 

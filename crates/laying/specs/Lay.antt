@@ -14,7 +14,7 @@ use Rattle.layout.specs.Decode.{decode}
 use Rattle.layout.specs.Known.{Read}
 use Rattle.layout.specs.declared.state.State.{State}
 use Rattle.order.specs.Fit.{orderWith}
-use Rattle.order.specs.Need.{workNeed}
+use Rattle.layout.specs.Need.{workNeed}
 use Rattle.order.specs.declared.fit.Look.{Look}
 use Rattle.order.specs.declared.fit.Look.the-variants.{Fits, Over}
 use Rattle.copying.specs.Copy.{graphEnd, Standing}

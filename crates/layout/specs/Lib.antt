@@ -4,3 +4,4 @@ pub mod Fields
 pub mod Sound
 pub mod Decode
 pub mod Known
+pub mod Need

@@ -3,7 +3,7 @@ ghost use mathlib.Core.Path.{_≡_};
 ghost use Prim.Native.Nat.{_+_, _*_, _≤_};
 ghost use lib.ListN.{length, replicate};
 ghost use Rattle.lists.specs.Lists.{over};
-ghost use Rattle.order.specs.Need.{workNeed};
+ghost use Rattle.layout.specs.Need.{workNeed};
 
 pub fn work_need(objects: u32, links: u32) -> usize
     ensures { λ r. ⌜ r ≡ workNeed objects links ⌝ }

@@ -1,4 +1,4 @@
--- Each way through pack's code, as its definition has it.
+-- The parts of pack's code joined: the graph copied, its table measured and laid, the work memory cleared.
 use mathlib.Core.Path.{_≡_, refl, sym, ap, _∙_}
 use Prim.Native.Nat.{ℕ, _+_, _*_, _≤_, _<_}
 use mathlib.Core.List.{List, _∷_}
@@ -29,36 +29,29 @@ use Rattle.layout.specs.Sound.{sound}
 use Rattle.layout.specs.declared.state.State.{State}
 use Rattle.steps.specs.Steps.{tallyIn}
 use Rattle.steps.proofs.Held.{Held}
+use Rattle.steps.proofs.Packs.{short-told, placed-told, over-told, pack-left}
 use Rattle.reach.specs.Pass.{Relaxing, Measured}
-use Rattle.order.specs.Need.{workNeed}
+use Rattle.layout.specs.Need.{workNeed}
 use Rattle.order.specs.declared.fit.Look.{Look}
 use Rattle.order.specs.declared.fit.Look.the-variants.{Fits, Over}
 use Rattle.copying.specs.Copy.{Copied, graphEnd}
-use Rattle.packer.specs.Pack.{PackOut, packed, cleared, clears, settle, packBy, packStep}
+use Rattle.steps.specs.Pack.{PackOut, packed, cleared, clears, settle, packBy, packStep}
 use Rattle.laying.specs.Lay.{Laying, Laid, lookIn}
 use Rattle.packer.specs.Packable.{Packable, Packed}
 use Rattle.copying.proofs.Standing.{stands-kept, tidy-read}
 
--- ---- the two tests left once the graph is copied, on a table of n bytes
+-- ---- what a look at the orders says of the outcome
 
 module _ (b w : List ℕ) (n : ℕ) (out m : List ℕ) where
-  abbrev restOn : Outcome → PackOut
-  restOn u = packBy (verdict (outputShort (length out) n ∷ overflows u)) n u b w out m
-
-  short-told : (u : Outcome) → length out < n → packed (Refused Refusal.OutputShort (tallyIn b w)) out (cleared w m) ≡ restOn u
-  unfolding verdict
-  short-told u h = rw (lt-ltb (length out) n h)
-
-  done-told : (u : Outcome) → n ≤ length out → Fits ≡ lookIn u → packed (Done n (tallyIn b w)) (over 0 (tableIn (decode b w) u) out) (cleared w m) ≡ restOn u
-  unfolding verdict
-  done-told (placed o) h e = rw (le-ltb (length out) n h)
+  done-told : (u : Outcome) → n ≤ length out → Fits ≡ lookIn u
+      → packed (Done n (tallyIn b w)) (over 0 (tableIn (decode b w) u) out) (cleared w m) ≡ packBy (verdict (outputShort (length out) n ∷ overflows u)) n u b w out m
+  done-told (placed o) h e = placed-told b w n out m o h
   done-told (overflow v) h e = absurd (let q : _≡_ {A = ℕ} 0 1 = cc in omega arith)
 
-  over-told : (u : Outcome) {o : Overflow} → n ≤ length out → Over o ≡ lookIn u
-      → packed (Refused (Refusal.Overflow o) (tallyIn b w)) (over 0 (tableIn (decode b w) u) out) (cleared w m) ≡ restOn u
-  unfolding verdict
-  over-told (placed o) h e = absurd (let q : _≡_ {A = ℕ} 0 1 = cc in omega arith)
-  over-told (overflow v) {o} h e = let q : o ≡ v = cc in rw (le-ltb (length out) n h, q, over-none 0 out)
+  unfit-told : (u : Outcome) {o : Overflow} → n ≤ length out → Over o ≡ lookIn u
+      → packed (Refused (Refusal.Overflow o) (tallyIn b w)) (over 0 (tableIn (decode b w) u) out) (cleared w m) ≡ packBy (verdict (outputShort (length out) n ∷ overflows u)) n u b w out m
+  unfit-told (placed o) h e = absurd (let q : _≡_ {A = ℕ} 0 1 = cc in omega arith)
+  unfit-told (overflow v) {o} h e = let q : o ≡ v = cc in rw q (over-told b w n out m v h)
 
 module _ {b w : List ℕ} {s : State} {t : Tally} {root : ℕ} {m : List ℕ} (c : Packable b w s t root m) where
   abbrev g : Graph
@@ -113,59 +106,24 @@ module _ {b w : List ℕ} {s : State} {t : Tally} {root : ℕ} {m : List ℕ} (c
             pub pack-over : {o : Overflow} → r ≡ Over o → Packed b w root (Refused (Refusal.Overflow o) t) out out′ m m₃
             pack-over e = record {
               kept = kept-all;
-              told = rw (c .tally, l .written) (over-told b w (tableLength g root) out m (arranged g root) room (sym e ∙ l .told));
+              told = rw (c .tally, l .written) (unfit-told b w (tableLength g root) out m (arranged g root) room (sym e ∙ l .told));
             }
 
--- ---- the tests before
-
-settle-refused : {ts : List Test} {why : Refusal} {t : Tally} (b w out m : List ℕ) (done : PackOut) → Comes ts (refused why) → t ≡ beside why (tallyIn b w) → clears why ≡ false
-    → packed (Refused why t) out m ≡ settle (verdict ts) b w out m done
-settle-refused b w out m done c e k = rw (verdict-is c, e, k)
-
-pub pack-unsound : {t : Tally} (b w : List ℕ) (id : ℕ) (out m : List ℕ) → t ≡ noTally → sound b w ≡ false → packed (Refused Refusal.Unsound t) out m ≡ packStep id b w out m
-unfolding packStep
-pack-unsound b w id out m e h = settle-refused b w out m _ (this (rw h)) e refl
+-- ---- and the needed words cleared
 
 pub packable : {b w : List ℕ} {s : State} {t : Tally} {id : ℕ} {m : List ℕ} → Held b w s t → workNeed (s .objects) (s .links) ≤ length m → id < t .objects → Packable b w s t id m
 packable h long known = record { read = h .counts; tally = h .tallyIs; known = omega arith; long = omega arith }
 
-module _ {b w : List ℕ} {s : State} {t : Tally} (h : Held b w s t) (id : ℕ) (out m : List ℕ) where
-  abbrev need : ℕ
-  need = workNeed (s .objects) (s .links)
+module _ {b w : List ℕ} {s : State} {t : Tally} (h : Held b w s t) (id : ℕ) (out m : List ℕ) (long : workNeed (s .objects) (s .links) ≤ length m) (none : t .depth ≤ 0)
+    (known : id < t .objects) where
+  -- the needed words cleared
+  cleared-again : {m′ m″ : List ℕ} → Kept 0 (workNeed (objectLimit w) (linkLimit w)) m m′ → m″ ≡ over 0 (replicate (s .objects * 3 + s .links * 3 + s .objects * 6) 0) m′ → m″ ≡ cleared w m
+  unfolding over
+  cleared-again k e =
+      let n = workNeed (objectLimit w) (linkLimit w) in
+      let z : 0 + n ≡ n = omega arith in
+      e ∙ rw (h .counts .objectsIs, h .counts .linksIs, length-replicate {A = ℕ} n 0, z, k .back)
 
-  isSound : not (sound b w) ≡ false
-  isSound = rw (h .counts .isSound)
-
-  pub pack-little : {z : Tally} → z ≡ noTally → length m < need → packed (Refused Refusal.OutOfRange z) out m ≡ packStep id b w out m
-  unfolding packStep
-  pack-little e k = settle-refused b w out m _ (next isSound (this (lt-ltb (length m) _ (omega arith)))) e refl
-
-  module _ (long : need ≤ length m) where
-    enough : ltb (length m) (workNeed (objectLimit w) (linkLimit w)) ≡ false
-    enough = le-ltb (length m) _ (omega arith)
-
-    pub pack-open : 0 < t .depth → packed (Refused Refusal.ObjectOpen t) out m ≡ packStep id b w out m
-    unfolding packStep
-    pack-open k = settle-refused b w out m _ (next isSound (next enough (this (rw (ne-eqb (openDepth w) 0 (λ e. omega arith)))))) (h .tallyIs) refl
-
-    module _ (none : t .depth ≤ 0) where
-      idle : not (eqb (openDepth w) 0) ≡ false
-      idle = rw (eq-eqb (openDepth w) 0 (omega arith))
-
-      pub pack-unknown : t .objects ≤ id → packed (Refused Refusal.NotClosed t) out m ≡ packStep id b w out m
-      unfolding packStep
-      pack-unknown k = settle-refused b w out m _ (next isSound (next enough (next idle (this (le-leb (closedCount w) id (omega arith)))))) (h .tallyIs) refl
-
-      module _ (known : id < t .objects) where
-        -- the needed words cleared
-        cleared-again : {m′ m″ : List ℕ} → Kept 0 (workNeed (objectLimit w) (linkLimit w)) m m′ → m″ ≡ over 0 (replicate (s .objects * 3 + s .links * 3 + s .objects * 6) 0) m′ → m″ ≡ cleared w m
-        unfolding over
-        cleared-again k e =
-            let n = workNeed (objectLimit w) (linkLimit w) in
-            let z : 0 + n ≡ n = omega arith in
-            e ∙ rw (h .counts .objectsIs, h .counts .linksIs, length-replicate {A = ℕ} n 0, z, k .back)
-
-        pub pack-done : {r : Packing} {out′ m′ m″ : List ℕ} → Packed b w id r out out′ m m′ → m″ ≡ over 0 (replicate (s .objects * 3 + s .links * 3 + s .objects * 6) 0) m′
-            → packed r out′ m″ ≡ packStep id b w out m
-        unfolding packStep verdict
-        pack-done p e = rw (cleared-again (p .kept) e, isSound, enough, idle, lt-leb (closedCount w) id (omega arith)) (p .told)
+  pub pack-done : {r : Packing} {out′ m′ m″ : List ℕ} → Packed b w id r out out′ m m′ → m″ ≡ over 0 (replicate (s .objects * 3 + s .links * 3 + s .objects * 6) 0) m′
+      → packed r out′ m″ ≡ packStep id b w out m
+  pack-done p e = rw (cleared-again (p .kept) e) (p .told) ∙ pack-left h id out m long none known

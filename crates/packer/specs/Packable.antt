@@ -14,8 +14,8 @@ use Rattle.layout.specs.Decode.{decode}
 use Rattle.layout.specs.Known.{Read}
 use Rattle.layout.specs.declared.state.State.{State}
 use Rattle.steps.specs.Steps.{tallyIn}
-use Rattle.order.specs.Need.{workNeed}
-use Rattle.packer.specs.Pack.{packed, cleared, packBy}
+use Rattle.layout.specs.Need.{workNeed}
+use Rattle.steps.specs.Pack.{packed, cleared, packBy}
 
 -- a pack to which 12, 13, 9 and 4 do not apply
 pub record Packable (b w : List ℕ) (s : State) (t : Tally) (root : ℕ) (m : List ℕ) : Type 0 where

@@ -21,7 +21,7 @@ ghost use mathlib.Core.Path.{_≡_};
 ghost use mathlib.Core.Bool.{true};
 ghost use Rattle.layout.specs.Sound.{sound};
 ghost use Rattle.packer.specs.Packable.{Packable, Packed};
-ghost use Rattle.packer.specs.Pack.{packed, packStep};
+ghost use Rattle.steps.specs.Pack.{packed, packStep};
 
 // The graph copied and its table laid, where the output has room for it. The needed work memory is left as it comes.
 fn pack_graph(

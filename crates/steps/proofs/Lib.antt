@@ -13,3 +13,4 @@ pub mod Steps
 pub mod Runs
 pub mod Held
 pub mod Works
+pub mod Packs

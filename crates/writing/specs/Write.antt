@@ -14,7 +14,7 @@ use Rattle.layout.specs.Decode.{decode}
 use Rattle.layout.specs.Known.{Read}
 use Rattle.layout.specs.declared.state.State.{State}
 use Rattle.placing.specs.Run.{OrderIds}
-use Rattle.order.specs.Need.{workNeed}
+use Rattle.layout.specs.Need.{workNeed}
 use Rattle.copying.specs.Copy.{graphEnd, Standing}
 
 -- the first r placed objects, and every object's place

@@ -1,7 +1,7 @@
 -- By whether the stores are sound.
 use borrow.Author.Needs.{needs}
 use mathlib.Core.Path.{sym, _∙_}
-use Rattle.packer.proofs.Works.{pack-unsound}
+use Rattle.steps.proofs.Packs.{pack-unsound}
 use Rattle.packer.proofs.pack.Statement.{statement}
 use Rattle.packer.proofs.pack.Tie as tie
 

@@ -2,7 +2,8 @@
 use borrow.Author.Needs.{needs}
 use native.Mathlib.Omega.{arith}
 use Rattle.steps.proofs.Held.{held}
-use Rattle.packer.proofs.Works.{pack-little, pack-open, pack-unknown, packable, pack-done}
+use Rattle.steps.proofs.Packs.{pack-little, pack-open, pack-unknown}
+use Rattle.packer.proofs.Works.{packable, pack-done}
 use Rattle.packer.proofs.pack_sound.Statement.{statement}
 use Rattle.packer.proofs.pack_sound.Tie as tie
 

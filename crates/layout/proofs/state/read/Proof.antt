@@ -70,20 +70,20 @@ returns c =
       linkTopIs = linkTop;
       linkLowIs = linkLow;
       bounds =
-        record {
-          some = rw p (f .head .some);
-          few = rw p (f .head .few);
-          fewLinks = rw links (f .head .fewLinks);
-          full = f .head .full;
-          most = f .head .most;
-          room = rw (p, links) (f .head .room);
-          closed = rw (p, k) (f .head .closed);
-          depth = rw d (f .head .depth);
-          apart = rw (top, low) (f .apart);
-          inside = rw low (f .inside);
-          linkApart = rw (linkTop, linkLow) (f .linkApart);
-          linkInside = rw (links, linkLow) (f .linkInside);
-        };
+          record {
+            some = rw p (f .head .some);
+            few = rw p (f .head .few);
+            fewLinks = rw links (f .head .fewLinks);
+            full = f .head .full;
+            most = f .head .most;
+            room = rw (p, links) (f .head .room);
+            closed = rw (p, k) (f .head .closed);
+            depth = rw d (f .head .depth);
+            apart = rw (top, low) (f .apart);
+            inside = rw low (f .inside);
+            linkApart = rw (linkTop, linkLow) (f .linkApart);
+            linkInside = rw (links, linkLow) (f .linkInside);
+          };
       isSound = h;
     }
 
