@@ -1,4 +1,5 @@
 -- Each return is one way of `closeStep`.
+use mathlib.Core.Path.{refl}
 use Rattle.closing.proofs.Closes.{Ready, ready, close-none, close-empty, close-twin, close-full, close-new}
 use Rattle.steps.proofs.Held.{held, inner-from}
 use Rattle.closing.proofs.close_sound.Statement.{statement}
@@ -24,10 +25,10 @@ read-requires : tie.Need-read-requires
 read-requires c κs = search needs
 
 same-length : tie.Need-same-length
-same-length c = search needs
+same-length c = refl
 
 same-length-2 : tie.Need-same-length-2
-same-length-2 c = search needs
+same-length-2 c = refl
 
 returns : tie.Need-returns
 returns c = close-none (held (c .before .read .ensures) (c .before .before .before .before .tally-sound .ensures)) (c .if1 .taken)
@@ -42,10 +43,10 @@ word-requires : tie.Need-word-requires
 word-requires c κs = search needs
 
 same-length-3 : tie.Need-same-length-3
-same-length-3 c = search needs
+same-length-3 c = refl
 
 same-length-4 : tie.Need-same-length-4
-same-length-4 c = search needs
+same-length-4 c = refl
 
 returns-2 : tie.Need-returns-2
 returns-2 c =
@@ -96,10 +97,10 @@ returns-3 c =
     rw (c .discard .ensures, f .forget .ensures .0, f .forget .ensures .1) (close-twin (inner (i .before .before .before)) (i .find .ensures) (d .if3 .taken))
 
 same-length-7 : tie.Need-same-length-7
-same-length-7 c = search needs
+same-length-7 c = refl
 
 same-length-8 : tie.Need-same-length-8
-same-length-8 c = search needs
+same-length-8 c = refl
 
 returns-4 : tie.Need-returns-4
 returns-4 c =

@@ -1,4 +1,5 @@
 -- Six ways: five refusals in their order, or a link is appended.
+use mathlib.Core.Path.{refl}
 use borrow.Author.Needs.{needs}
 use native.Mathlib.Omega.{arith}
 use Rattle.steps.proofs.Held.{held}
@@ -16,7 +17,7 @@ cast-child : tie.Need-cast-child
 cast-child c = search needs
 
 same-length : tie.Need-same-length
-same-length c = search needs
+same-length c = refl
 
 returns : tie.Need-returns
 returns c =
@@ -27,7 +28,7 @@ width-ok-requires : tie.Need-width-ok-requires
 width-ok-requires c κs = search needs
 
 same-length-2 : tie.Need-same-length-2
-same-length-2 c = search needs
+same-length-2 c = refl
 
 returns-2 : tie.Need-returns-2
 returns-2 c =
@@ -36,7 +37,7 @@ returns-2 c =
     link-width h _ _ (omega arith) (rw (c .before .width-ok .ensures) at (c .if2 .taken))
 
 same-length-3 : tie.Need-same-length-3
-same-length-3 c = search needs
+same-length-3 c = refl
 
 returns-3 : tie.Need-returns-3
 returns-3 c =
@@ -46,7 +47,7 @@ returns-3 c =
     link-child h _ _ (omega arith) (rw (i2 .before .width-ok .ensures) at (i2 .if2 .left)) (c .if3 .taken)
 
 same-length-4 : tie.Need-same-length-4
-same-length-4 c = search needs
+same-length-4 c = refl
 
 returns-4 : tie.Need-returns-4
 returns-4 c =
@@ -63,7 +64,7 @@ sub-if5 c =
     omega arith
 
 same-length-5 : tie.Need-same-length-5
-same-length-5 c = search needs
+same-length-5 c = refl
 
 returns-5 : tie.Need-returns-5
 returns-5 c =

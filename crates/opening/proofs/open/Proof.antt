@@ -1,6 +1,6 @@
 -- By whether the stores are sound.
 use borrow.Author.Needs.{needs}
-use mathlib.Core.Path.{sym, _∙_}
+use mathlib.Core.Path.{refl, sym, _∙_}
 use Rattle.steps.specs.Steps.{openStep}
 use Rattle.steps.proofs.Works.{unsound-told}
 use Rattle.opening.proofs.open.Statement.{statement}
@@ -22,7 +22,7 @@ none-requires : tie.Need-none-requires
 none-requires c κs = search needs
 
 same-length-2 : tie.Need-same-length-2
-same-length-2 c = search needs
+same-length-2 c = refl
 
 returns-2 : tie.Need-returns-2
 unfolding openStep

@@ -1,6 +1,6 @@
 -- By whether the stores are sound.
 use borrow.Author.Needs.{needs}
-use mathlib.Core.Path.{sym, _∙_}
+use mathlib.Core.Path.{refl, sym, _∙_}
 use Rattle.steps.specs.Steps.{putStep}
 use Rattle.steps.proofs.Works.{unsound-told}
 use Rattle.putting.proofs.put.Statement.{statement}
@@ -25,10 +25,10 @@ none-requires : tie.Need-none-requires
 none-requires c κs = search needs
 
 same-length-3 : tie.Need-same-length-3
-same-length-3 c = search needs
+same-length-3 c = refl
 
 same-length-4 : tie.Need-same-length-4
-same-length-4 c = search needs
+same-length-4 c = refl
 
 returns-2 : tie.Need-returns-2
 unfolding putStep
