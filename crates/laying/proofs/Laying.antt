@@ -20,9 +20,9 @@ use Rattle.model.proofs.Reach.{reached-rooted}
 use Rattle.layout.specs.Words.{objectLimit, closedCount}
 use Rattle.layout.specs.Decode.{decode}
 use Rattle.layout.specs.declared.state.State.{State}
-use Rattle.order.specs.Fit.{Trying, Tried, lookOf, orderWith}
-use Rattle.order.specs.declared.fit.Look.{Look}
-use Rattle.order.specs.declared.fit.Look.the-variants.{Fits, Over}
+use Rattle.order.specs.Try.{Trying, Tried, lookOf, orderWith}
+use Rattle.fitting.specs.declared.Look.{Look}
+use Rattle.fitting.specs.declared.Look.the-variants.{Fits, Over}
 use Rattle.copying.specs.Copy.{graphEnd}
 use Rattle.writing.specs.Write.{Writing, orderIn, placesIn, tableIn}
 use Rattle.laying.specs.Lay.{Laying, Laid, lookIn, oneOrder}

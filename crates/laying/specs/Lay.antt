@@ -13,10 +13,10 @@ use Rattle.layout.specs.Words.{objectLimit, linkLimit, closedCount}
 use Rattle.layout.specs.Decode.{decode}
 use Rattle.layout.specs.Known.{Read}
 use Rattle.layout.specs.declared.state.State.{State}
-use Rattle.order.specs.Fit.{orderWith}
+use Rattle.order.specs.Try.{orderWith}
 use Rattle.layout.specs.Need.{workNeed}
-use Rattle.order.specs.declared.fit.Look.{Look}
-use Rattle.order.specs.declared.fit.Look.the-variants.{Fits, Over}
+use Rattle.fitting.specs.declared.Look.{Look}
+use Rattle.fitting.specs.declared.Look.the-variants.{Fits, Over}
 use Rattle.copying.specs.Copy.{graphEnd, Standing}
 
 -- what laying an order from a root asks: the graph stands in the work memory m, and its table has room

@@ -1,8 +1,8 @@
 // An order laid: tried, and its table written where every offset fits.
+use fitting::Look;
 use layout::state::State;
 use layout::words::LINK_WORDS;
-use order::fit::Look;
-use order::fit::try_order;
+use order::trial::try_order;
 use writing::write_table;
 ghost use mathlib.Core.Bool.{true};
 ghost use lib.ListN.{length};

@@ -21,7 +21,7 @@ use Rattle.model.proofs.Reach.{reached-rooted}
 use Rattle.model.proofs.Orders.{Inv, next-free, next-inv, length-left, rooted-inv}
 use Rattle.reach.specs.Pass.{relaxed}
 use Rattle.placing.specs.Run.{Queue, leastFrom, leastAt, removeAt, released, releasedAll, placing, keyBy, runOrder}
-use Rattle.order.specs.Fit.{orderOf}
+use Rattle.order.specs.Try.{orderOf}
 use Rattle.order.proofs.Reached.{Light, counts-waits, dists-distance}
 
 -- ---- the one of least key, by its place

@@ -1,5 +1,3 @@
-pub mod Summing
-pub mod Looking
 pub mod Trying
 pub mod Reached
 pub mod Counted

@@ -17,8 +17,9 @@ use Rattle.model.specs.Table.{placeOf, offset, unfitLinks, unfitFrom, unfit}
 use Rattle.model.proofs.Bags.{one-same}
 use Rattle.model.proofs.Reach.{reached-rooted}
 use Rattle.model.proofs.Orders.{orderBy-once}
-use Rattle.order.specs.Fit.{placesFrom, orElse, offsetBy, lookLinks, look, lookAt, lookOf}
-use Rattle.order.specs.declared.fit.Look.the-variants.{Over}
+use Rattle.fitting.specs.Fit.{placesFrom, orElse, offsetBy, lookLinks, look}
+use Rattle.order.specs.Try.{lookAt, lookOf}
+use Rattle.fitting.specs.declared.Look.the-variants.{Over}
 use Rattle.order.proofs.Reached.{Light, reached-inside}
 use Rattle.order.proofs.Counted.{order-kahn, order-distance}
 use Rattle.order.proofs.Placed.{places-placed}

@@ -19,8 +19,9 @@ use Rattle.model.proofs.Orders.{orderBy-once}
 use Rattle.model.proofs.Reach.{reached-rooted}
 use Rattle.graph.specs.Graph.{graphIn, linkAt, linksFrom, linksAt, linkCount, linkOf, Tidy}
 use Rattle.reach.specs.Pass.{Pass, Measured, Passes, relaxed, markedSum}
-use Rattle.order.specs.Fit.{placesFrom, orderOf, lookAt, lookOf, Ran, orderWith, Tried}
-use Rattle.order.specs.declared.fit.Look.{Look}
+use Rattle.fitting.specs.Fit.{placesFrom}
+use Rattle.order.specs.Try.{orderOf, lookAt, lookOf, Ran, orderWith, Tried}
+use Rattle.fitting.specs.declared.Look.{Look}
 use Rattle.graph.proofs.Links.{width-narrow}
 use Rattle.order.proofs.Reached.{Light, sum-length, reached-inside}
 use Rattle.order.proofs.Counted.{order-kahn, order-distance}

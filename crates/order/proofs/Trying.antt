@@ -9,8 +9,9 @@ use Rattle.regions.specs.Region.{region, Kept, Filling}
 use Rattle.regions.proofs.Frame.{kept-then, kept-less, kept-below}
 use Rattle.graph.specs.Graph.{graphIn}
 use Rattle.placing.specs.Run.{Arranged}
-use Rattle.order.specs.Fit.{placesFrom, look, orderOf, Placing, PlacedAt, Trying, Ran}
-use Rattle.order.specs.declared.fit.Look.{Look}
+use Rattle.fitting.specs.Fit.{placesFrom, look, Placing, PlacedAt}
+use Rattle.order.specs.Try.{orderOf, Trying, Ran}
+use Rattle.fitting.specs.declared.Look.{Look}
 use Rattle.graph.proofs.Links.{tidy-kept}
 
 -- the places lie behind the graph and the order

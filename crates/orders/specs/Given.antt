@@ -7,7 +7,7 @@ use lib.ListN.{length, getD, take}
 use lib.Dec.{ltb, leb}
 use Rattle.model.specs.Object.{widthOk}
 use Rattle.graph.specs.Graph.{linkOf, linksAt, linkCount}
-use Rattle.order.specs.Fit.{Trying}
+use Rattle.order.specs.Try.{Trying}
 
 abbrev pub allBelow : ℕ → (ℕ → Bool) → Bool
 allBelow zero test = true

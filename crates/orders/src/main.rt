@@ -6,8 +6,8 @@ ghost use Prim.Native.Nat.{_+_, _*_, _≤_};
 ghost use lib.ListN.{length};
 ghost use Rattle.placing.specs.Run.{OrderIds};
 ghost use Rattle.orders.specs.Given.{given, Loaded, Ready};
-use order::fit::Look;
-use order::fit::try_order;
+use fitting::Look;
+use order::trial::try_order;
 
 fn print(text: &[u8]) {
     io::write_all(1, text);

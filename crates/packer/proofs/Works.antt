@@ -32,8 +32,8 @@ use Rattle.steps.proofs.Held.{Held}
 use Rattle.steps.proofs.Packs.{short-told, placed-told, over-told, pack-left}
 use Rattle.reach.specs.Pass.{Relaxing, Measured}
 use Rattle.layout.specs.Need.{workNeed}
-use Rattle.order.specs.declared.fit.Look.{Look}
-use Rattle.order.specs.declared.fit.Look.the-variants.{Fits, Over}
+use Rattle.fitting.specs.declared.Look.{Look}
+use Rattle.fitting.specs.declared.Look.the-variants.{Fits, Over}
 use Rattle.copying.specs.Copy.{Copied, graphEnd}
 use Rattle.steps.specs.Pack.{PackOut, packed, cleared, clears, settle, packBy, packStep}
 use Rattle.laying.specs.Lay.{Laying, Laid, lookIn}

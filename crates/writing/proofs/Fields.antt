@@ -12,7 +12,7 @@ use Rattle.regions.specs.Region.{region}
 use Rattle.regions.proofs.Laws.{region-at}
 use Rattle.model.specs.Table.{offset, filled, FieldsIn}
 use Rattle.graph.specs.Graph.{graphIn, linkOf, linksAfter, linkCount, AtNode, FieldOf}
-use Rattle.order.specs.Fit.{offsetBy}
+use Rattle.fitting.specs.Fit.{offsetBy}
 use Rattle.graph.proofs.Links.{links-in, links-next, links-none}
 
 -- d₀ has become d: t fields of node i are written

@@ -21,7 +21,7 @@ use Rattle.layout.specs.Decode.{decode}
 use Rattle.layout.specs.declared.state.State.{State}
 use Rattle.layout.proofs.Facts.{sound-tables, sound-known}
 use Rattle.graph.specs.Graph.{graphIn, AtNode}
-use Rattle.order.specs.Fit.{offsetBy}
+use Rattle.fitting.specs.Fit.{offsetBy}
 use Rattle.copying.specs.Copy.{graphEnd}
 use Rattle.writing.specs.Write.{Writing, orderIn, tableIn}
 use Rattle.lists.proofs.Overs.{over-then, over-lent}

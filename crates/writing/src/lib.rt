@@ -1,10 +1,10 @@
 // Table bytes from the order and the places in the work memory.
+use fitting::less;
 use graph::field_at;
 use graph::link_count;
 use layout::state::State;
 use layout::words::LINK_WORDS;
 use layout::words::word;
-use order::fit::less;
 ghost use mathlib.Core.Path.{_≡_};
 ghost use Prim.Native.Nat.{_+_, _*_, _≤_};
 ghost use lib.ListN.{length, take};
@@ -12,7 +12,7 @@ ghost use Rattle.lists.specs.Lists.{over};
 ghost use Rattle.regions.specs.Region.{region};
 ghost use Rattle.model.specs.Table.{filled, FieldsIn};
 ghost use Rattle.graph.specs.Graph.{graphIn, AtNode};
-ghost use Rattle.order.specs.Fit.{offsetBy};
+ghost use Rattle.fitting.specs.Fit.{offsetBy};
 ghost use Rattle.writing.specs.Write.{Writing, tableIn};
 
 // Fills the fields of node i, whose bytes stand at the front of `part`.

@@ -3,9 +3,9 @@ use mathlib.Core.Path.{refl, sym}
 use Prim.Native.Nat.{_-_}
 use native.Mathlib.Omega.{arith}
 use borrow.Author.Needs.{needs}
-use Rattle.order.proofs.Looking.{Looking, looking-none, looking-next, looking-stop, looking-all}
-use Rattle.order.proofs.fit.look_links.Statement.{statement}
-use Rattle.order.proofs.fit.look_links.Tie as tie
+use Rattle.fitting.proofs.Looking.{Looking, looking-none, looking-next, looking-stop, looking-all}
+use Rattle.fitting.proofs.look_links.Statement.{statement}
+use Rattle.fitting.proofs.look_links.Tie as tie
 
 abbrev Inv-loop : tie.InvT-loop
 Inv-loop work p g n i count own t₀ t = Looking p g n i count own t work

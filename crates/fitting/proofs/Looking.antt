@@ -13,11 +13,11 @@ use Rattle.answer.specs.declared.Overflow.{Overflow}
 use Rattle.field.specs.BigEndian.{capacity}
 use Rattle.model.specs.Table.{offset}
 use Rattle.graph.specs.Graph.{graphIn, linkOf, linksAfter, linkCount, AtNode, FieldOf}
-use Rattle.order.specs.Fit.{orElse, offsetBy, lookLinks, look, Placing}
-use Rattle.order.specs.declared.fit.Look.{Look}
-use Rattle.order.specs.declared.fit.Look.the-variants.{Fits, Over}
+use Rattle.fitting.specs.Fit.{orElse, offsetBy, lookLinks, look, Placing}
+use Rattle.fitting.specs.declared.Look.{Look}
+use Rattle.fitting.specs.declared.Look.the-variants.{Fits, Over}
 use Rattle.graph.proofs.Links.{links-in, links-next, links-none}
-use Rattle.order.proofs.Summing.{order-long}
+use Rattle.fitting.proofs.Summing.{order-long}
 
 -- t links of node i fit
 pub record Looking (p g n i count own t : ℕ) (w : List ℕ) : Type 0 where

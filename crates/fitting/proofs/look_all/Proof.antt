@@ -2,9 +2,9 @@
 use mathlib.Core.Path.{sym}
 use Prim.Native.Nat.{_-_}
 use borrow.Author.Needs.{needs}
-use Rattle.order.proofs.Looking.{Seeking, seeking-none, seeking-node, seeking-next, seeking-stop, seeking-all}
-use Rattle.order.proofs.fit.look_all.Statement.{statement}
-use Rattle.order.proofs.fit.look_all.Tie as tie
+use Rattle.fitting.proofs.Looking.{Seeking, seeking-none, seeking-node, seeking-next, seeking-stop, seeking-all}
+use Rattle.fitting.proofs.look_all.Statement.{statement}
+use Rattle.fitting.proofs.look_all.Tie as tie
 
 abbrev Inv-loop : tie.InvT-loop
 Inv-loop work p g n r t₀ t = Seeking p g n r t work

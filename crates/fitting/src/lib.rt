@@ -4,27 +4,20 @@ use answer::Overflow;
 use field::capacity;
 use graph::field_at;
 use graph::link_count;
-use placing::arrange;
-use regions::fill;
 ghost use mathlib.Core.Path.{_≡_};
 ghost use Prim.Native.Nat.{_+_, _-_, _*_, _≤_};
 ghost use lib.ListN.{length, take};
 ghost use Rattle.regions.specs.Region.{region};
 ghost use Rattle.graph.specs.Graph.{AtNode, graphIn};
-ghost use Rattle.order.specs.Fit.{Placing, PlacedAt, Trying, Tried, lookLinks, look};
+ghost use Rattle.fitting.specs.Fit.{Placing, PlacedAt, lookLinks, look};
 
 pub enum Look {
     Fits,
     Over(Overflow),
 }
 
-pub struct Try {
-    pub placed: usize,
-    pub look: Look,
-}
-
 // The places of the r placed nodes, in the words from g + p * 5 on.
-fn set_places(work: &mut [u64], p: usize, g: usize, n: usize, r: usize)
+pub fn set_places(work: &mut [u64], p: usize, g: usize, n: usize, r: usize)
     requires { ⌜ Placing p g n r (now work) ⌝ }
     ensures { λ _. ⌜ PlacedAt p g n r (now (work .entry)) (now (work .exit)) ⌝ }
 {
@@ -71,7 +64,7 @@ fn look_links(work: &[u64], p: usize, g: usize, n: usize, i: usize) -> Look
 }
 
 // The first link, in placing order, that does not fit.
-fn look_all(work: &[u64], p: usize, g: usize, n: usize, r: usize) -> Look
+pub fn look_all(work: &[u64], p: usize, g: usize, n: usize, r: usize) -> Look
     requires { ⌜ Placing p g n r (now work) ⌝ }
     ensures { λ a. ⌜ a ≡ look (graphIn p n (take g (now (work .entry)))) (region (g + p * 5) p (now (work .entry))) (region (g + p * 4) r (now (work .entry))) ⌝ }
 {
@@ -84,19 +77,4 @@ fn look_all(work: &[u64], p: usize, g: usize, n: usize, r: usize) -> Look
         t += 1;
     }
     Look::Fits
-}
-
-// One order tried: placed in the words behind the graph, and the first link that does not fit.
-pub fn try_order(work: &mut [u64], p: usize, g: usize, n: usize, root: usize, keyed: bool) -> Try
-    requires { ⌜ Trying p g n root (now work) ⌝ }
-    ensures { λ r. ⌜ Tried p g n root keyed (r .placed) (r .look) (now (work .entry)) (now (work .exit)) ⌝ }
-{
-    let placed = arrange(work, p, g, n, root, keyed);
-    fill(work, g + p * 5, p, 0);
-    set_places(work, p, g, n, placed);
-    let look = look_all(work, p, g, n, placed);
-    Try {
-        placed: placed,
-        look: look,
-    }
 }

@@ -2,8 +2,8 @@
 use borrow.Author.Needs.{needs}
 use Rattle.order.proofs.Trying.{try-placing, try-look, try-all}
 use Rattle.order.proofs.Tidied.{tried}
-use Rattle.order.proofs.fit.try_order.Statement.{statement}
-use Rattle.order.proofs.fit.try_order.Tie as tie
+use Rattle.order.proofs.trial.try_order.Statement.{statement}
+use Rattle.order.proofs.trial.try_order.Tie as tie
 
 arrange-requires : tie.Need-arrange-requires
 arrange-requires c κs = search needs

@@ -10,7 +10,7 @@ use Rattle.regions.proofs.Laws.{region-length, region-at, region-in}
 use Rattle.regions.proofs.Bounds.{top-at}
 use Rattle.regions.proofs.Frame.{kept-all, kept-then, kept-set, kept-less, kept-below, kept-at}
 use Rattle.graph.specs.Graph.{graphIn}
-use Rattle.order.specs.Fit.{placesFrom, Placing, PlacedAt}
+use Rattle.fitting.specs.Fit.{placesFrom, Placing, PlacedAt}
 use Rattle.graph.proofs.Links.{size-in}
 
 -- t nodes have their places, and the next begins at `at`

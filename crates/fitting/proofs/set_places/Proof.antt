@@ -2,9 +2,9 @@
 use Prim.Native.Nat.{_-_}
 use native.Mathlib.Omega.{arith}
 use borrow.Author.Needs.{needs}
-use Rattle.order.proofs.Summing.{Summing, summing-none, node-in, size-light, summing-next, summing-all}
-use Rattle.order.proofs.fit.set_places.Statement.{statement}
-use Rattle.order.proofs.fit.set_places.Tie as tie
+use Rattle.fitting.proofs.Summing.{Summing, summing-none, node-in, size-light, summing-next, summing-all}
+use Rattle.fitting.proofs.set_places.Statement.{statement}
+use Rattle.fitting.proofs.set_places.Tie as tie
 
 abbrev Inv-loop : tie.InvT-loop
 Inv-loop work₀ p g n r at₀ t₀ work at t = Summing p g n r t at work₀ work
