@@ -1,7 +1,7 @@
 -- The soundness test as facts, and back.
 use mathlib.Core.Path.{_≡_, refl, sym}
 use mathlib.Core.Bool.{true, false, _&&_, and-assoc, and-true, not-eq-not}
-use Prim.Native.Nat.{ℕ, _≤_}
+use Prim.Native.Nat.{ℕ, _+_, _*_, _≤_}
 use mathlib.Core.List.{List}
 use native.Mathlib.Omega.{arith}
 use borrow.Author.Tests.{leb-true, eqb-true, le-leb, eq-eqb}
@@ -9,7 +9,7 @@ use lib.ListN.{length, getD}
 use lib.Dec.{leb, eqb}
 use Rattle.lists.specs.Lists.{holds}
 use Rattle.lists.proofs.Holds.{holds-at}
-use Rattle.model.specs.Judge.{mostObjects, mostLinks, mostBytes, mostOpen, inRange}
+use Rattle.model.specs.Judge.{mostBytes, mostOpen, inRange}
 use Rattle.layout.specs.Tables.{rises, falls}
 use Rattle.layout.specs.Words.{objectLimit, closedCount, openDepth, endsAt, linkEndsAt, beginsAt, linkBeginsAt, need, storeLength, linkLimit, limitsIn, ends, linkEnds, begins, linkBegins, top, linkTop, low, linkLow}
 use Rattle.layout.specs.Sound.{headTests, headOk, tableTests, soundTests, sound}
@@ -37,6 +37,9 @@ head-facts n w h =
       linkBase = eqb-true _ _ (at 6);
     }
 
+pub head-long : (n : ℕ) (w : List ℕ) → headOk n w ≡ true → 135 + objectLimit w * 2 ≤ length w
+head-long n w h = omega (arith, head-facts n w h .room)
+
 -- what cannot be is refused
 pub head-not : (n : ℕ) (w : List ℕ) → (Head n w → ⊥) → false ≡ headOk n w
 head-not n w h = sym (not-eq-not .0 (λ e. h (head-facts n w e)))
@@ -48,21 +51,13 @@ head-of {n} h =
     (simp (le-leb _ _ (h .some), le-leb _ _ (h .few), le-leb _ _ (h .fewLinks), le-leb _ _ (h .full), le-leb _ _ (h .most))
     (simp (le-leb _ _ (h .room), le-leb _ _ (h .closed), le-leb _ _ (h .depth))))
 
--- the tests that the code joins at its end
-pub head-joined : (n : ℕ) (w : List ℕ) → objectLimit w ≤ mostObjects
-    → (leb 1 (objectLimit w)
-    && leb (linkLimit w) mostLinks
-    && leb 1 (storeLength w)
-    && leb (storeLength w) mostBytes
-    && leb (need (objectLimit w) (linkLimit w)) (length w)
-    && eqb (storeLength w) n
-    && leb (closedCount w) (objectLimit w)
-    && leb (openDepth w) mostOpen
-    && eqb (getD w endsAt 0) 0
-    && eqb (getD w linkEndsAt 0) 0)
+-- the limits and the lengths, and the counts, as the code tests them
+pub head-joined : (n : ℕ) (w : List ℕ)
+    → ((holds (inRange (limitsIn w)) && leb (need (objectLimit w) (linkLimit w)) (length w) && eqb (storeLength w) n)
+    && (leb (closedCount w) (objectLimit w) && leb (openDepth w) mostOpen && eqb (getD w endsAt 0) 0 && eqb (getD w linkEndsAt 0) 0))
     ≡ headOk n w
 unfolding headOk headTests holds
-head-joined n w h = simp (and-assoc, and-true, le-leb _ _ h)
+head-joined n w = simp (and-assoc, and-true)
 
 -- what the four tables give, for a byte store of n bytes
 pub record Tables (n : ℕ) (w : List ℕ) : Type 0 where
@@ -92,11 +87,12 @@ table-facts n w k h =
       linkInside = linkBegins .under (closedCount w) (omega arith);
     }
 
--- past the tables, where open ones end and closed ones begin decides
-pub tables-joined : (w : List ℕ) → rises (ends w) ≡ true → rises (linkEnds w) ≡ true → falls 1 (begins w) ≡ true → falls 0 (linkBegins w) ≡ true
-    → (leb (top w) (low w) && leb (linkTop w) (linkLow w)) ≡ holds (tableTests w)
+-- the tables, and where open ones end and closed ones begin, as the code tests them
+pub tables-joined : (w : List ℕ)
+    → (rises (ends w) && rises (linkEnds w) && falls 1 (begins w) && falls 0 (linkBegins w) && (leb (top w) (low w) && leb (linkTop w) (linkLow w)))
+    ≡ holds (tableTests w)
 unfolding tableTests holds
-tables-joined w a b c d = rw (a, b, c, d, and-true)
+tables-joined w = simp (and-assoc, and-true)
 
 tables-of : {b w : List ℕ} → Sound b w → holds (tableTests w) ≡ true
 unfolding tableTests holds

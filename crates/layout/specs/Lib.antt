@@ -4,4 +4,5 @@ pub mod Fields
 pub mod Sound
 pub mod Decode
 pub mod Known
+pub mod Counted
 pub mod Need

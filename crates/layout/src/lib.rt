@@ -1,3 +1,4 @@
 // The words of the record store, what they mean, and what sound stores hold.
+pub mod counts;
 pub mod state;
 pub mod words;

@@ -1,24 +1,28 @@
 // Tests of the record store: limits, lengths and counts, and the four tables.
+use layout::counts::read_counts;
 use layout::words::need;
 use layout::words::word;
 ghost use mathlib.Core.Path.{_≡_};
-ghost use Prim.Native.Nat.{_≤_};
+ghost use Prim.Native.Nat.{_+_, _≤_, _<_};
+ghost use mathlib.Core.Bool.{true, _&&_};
+ghost use lib.ListN.{length, getD};
+ghost use lib.Dec.{leb, eqb};
+ghost use Rattle.lists.specs.Lists.{part, holds};
+ghost use Rattle.model.specs.Judge.{inRange, mostOpen};
 ghost use Rattle.layout.specs.Tables.{rises, falls};
-ghost use mathlib.Core.Bool.{true};
-ghost use Rattle.lists.specs.Lists.{holds};
+ghost use Rattle.layout.specs.Words.{objectLimit, closedCount, openDepth, endsAt, linkEndsAt, linkBeginsAt, need as recordsNeed, storeLength, linkLimit, limitsIn};
 ghost use Rattle.layout.specs.Sound.{headOk, tableTests};
 
-// Whether no entry is below the one before it.
-pub fn rising(t: &[u32]) -> bool
-    ensures { λ r. ⌜ r ≡ rises (now (t .entry)) ⌝ }
+// Whether, from index `at` on, each of the next `more` entries is no lower than the one before it.
+fn rising(w: &[u32], at: usize, more: usize) -> bool
+    requires { ⌜ at + more < length (now w) ⌝ }
+    ensures { λ r. ⌜ r ≡ rises (part at (at + more + 1) (now (w .entry))) ⌝ }
 {
-    if t.len() == 0 {
-        return true;
-    }
-    let mut last = t[0];
-    let mut i = 1;
-    while i < t.len() {
-        let x = t[i];
+    let end = at + more + 1;
+    let mut last = word(w, at);
+    let mut i = at + 1;
+    while i < end {
+        let x = word(w, i);
         if x < last {
             return false;
         }
@@ -28,18 +32,16 @@ pub fn rising(t: &[u32]) -> bool
     true
 }
 
-// Whether each entry is at least `by` below the one before it.
-pub fn falling(t: &[u32], by: u64) -> bool
-    requires { ⌜ by ≤ 1 ⌝ }
-    ensures { λ r. ⌜ r ≡ falls by (now (t .entry)) ⌝ }
+// Whether, from index `at` on, each of the next `more` entries is at least `by` below the one before it.
+fn falling(w: &[u32], at: usize, more: usize, by: usize) -> bool
+    requires { ⌜ (at + more < length (now w)) × (by ≤ 1) ⌝ }
+    ensures { λ r. ⌜ r ≡ falls by (part at (at + more + 1) (now (w .entry))) ⌝ }
 {
-    if t.len() == 0 {
-        return true;
-    }
-    let mut last = t[0] as u64;
-    let mut i = 1;
-    while i < t.len() {
-        let x = t[i] as u64;
+    let end = at + more + 1;
+    let mut last = word(w, at);
+    let mut i = at + 1;
+    while i < end {
+        let x = word(w, i);
         if last < x + by {
             return false;
         }
@@ -49,6 +51,31 @@ pub fn falling(t: &[u32], by: u64) -> bool
     true
 }
 
+// The limits, and the lengths of both stores.
+fn limits_ok(n: usize, w: &[u32]) -> bool
+    requires { ⌜ linkBeginsAt (now w) < length (now w) ⌝ }
+    ensures { λ r. ⌜ r ≡ (holds (inRange (limitsIn (now (w .entry)))) && leb (recordsNeed (objectLimit (now (w .entry))) (linkLimit (now (w .entry)))) (length (now (w .entry))) && eqb (storeLength (now (w .entry))) n) ⌝ }
+{
+    let p = word(w, 0);
+    let l = word(w, 134 + p);
+    let s = word(w, 133);
+    (1 <= p)
+        & (p <= 4096)
+        & (l <= 16384)
+        & (1 <= s)
+        & (s <= 1048576)
+        & (need(p as u32, l as u32) <= w.len())
+        & (s == n)
+}
+
+// The counts, and the first entries of the open objects' tables.
+fn counts_ok(w: &[u32]) -> bool
+    requires { ⌜ linkEndsAt < length (now w) ⌝ }
+    ensures { λ r. ⌜ r ≡ (leb (closedCount (now (w .entry))) (objectLimit (now (w .entry))) && leb (openDepth (now (w .entry))) mostOpen && eqb (getD (now (w .entry)) endsAt 0) 0 && eqb (getD (now (w .entry)) linkEndsAt 0) 0) ⌝ }
+{
+    (word(w, 1) <= word(w, 0)) & (word(w, 2) <= 64) & (word(w, 3) == 0) & (word(w, 68) == 0)
+}
+
 // Limits, lengths and counts, for a byte store of n bytes.
 pub fn head_ok(n: usize, w: &[u32]) -> bool
     ensures { λ r. ⌜ r ≡ headOk n (now (w .entry)) ⌝ }
@@ -56,29 +83,18 @@ pub fn head_ok(n: usize, w: &[u32]) -> bool
     if w.len() < 135 {
         return false;
     }
-    let p = word(w, 0);
-    if 4096 < p {
+    if w.len() < 135 + word(w, 0) * 2 {
         return false;
     }
-    if w.len() < 135 + p * 2 {
-        return false;
-    }
-    let l = word(w, 134 + p);
-    let c = word(w, 1);
-    let d = word(w, 2);
-    let s = word(w, 133);
-    let e = word(w, 3);
-    let k = word(w, 68);
-    (1 <= p)
-        & (l <= 16384)
-        & (1 <= s)
-        & (s <= 1048576)
-        & (need(w[0], w[134 + p]) <= w.len())
-        & (s == n)
-        & (c <= p)
-        & (d <= 64)
-        & (e == 0)
-        & (k == 0)
+    limits_ok(n, w) & counts_ok(w)
+}
+
+// Whether open and closed objects do not meet, at these places of the tables' last entries.
+fn apart(w: &[u32], end: usize, begin: usize) -> bool
+    requires { ⌜ (end < length (now w)) × (begin < length (now w)) ⌝ }
+    ensures { λ r. ⌜ r ≡ leb (getD (now (w .entry)) end 0) (getD (now (w .entry)) begin 0) ⌝ }
+{
+    word(w, end) <= word(w, begin)
 }
 
 // The four tables, and that open and closed do not meet.
@@ -86,25 +102,13 @@ pub fn tables_ok(n: usize, w: &[u32]) -> bool
     requires { ⌜ headOk n (now w) ≡ true ⌝ }
     ensures { λ r. ⌜ r ≡ holds (tableTests (now (w .entry))) ⌝ }
 {
-    let p = word(w, 0);
-    let c = word(w, 1);
-    let d = word(w, 2);
-    let ends = 3 + d + 1;
-    if !rising(&w[3..ends]) {
-        return false;
-    }
-    let link_ends = 68 + d + 1;
-    if !rising(&w[68..link_ends]) {
-        return false;
-    }
-    let begins = 133 + c + 1;
-    if !falling(&w[133..begins], 1) {
-        return false;
-    }
-    let at = 134 + p;
-    let link_begins = at + c + 1;
-    if !falling(&w[at..link_begins], 0) {
-        return false;
-    }
-    (word(w, 3 + d) <= word(w, 133 + c)) & (word(w, 68 + d) <= word(w, at + c))
+    let k = read_counts(n, w);
+    let c = k.closed;
+    let d = k.depth;
+    let at = 134 + k.objects;
+    rising(w, 3, d)
+        & rising(w, 68, d)
+        & falling(w, 133, c, 1)
+        & falling(w, at, c, 0)
+        & (apart(w, 3 + d, 133 + c) & apart(w, 68 + d, at + c))
 }

@@ -3,51 +3,49 @@ use borrow.Author.Needs.{needs}
 use borrow.Author.Tests.{lt-leb, le-leb}
 use mathlib.Core.Path.{_≡_, sym, _∙_}
 use Prim.Native.Nat.{_+_, _≤_, _-_}
-use native.Mathlib.Omega.{arith}
-use lib.ListN.{length, drop}
 use lib.Dec.{leb}
+use Rattle.lists.specs.Lists.{part}
 use Rattle.layout.specs.Tables.{chain, falls}
-use Rattle.layout.proofs.Chains.{chain-next, chain-all, chained-none, chained-first}
+use Rattle.tables.proofs.Chains.{chain-next, chain-all, chained-first}
 use Rattle.tables.proofs.falling.Statement.{statement}
 use Rattle.tables.proofs.falling.Tie as tie
 
 abbrev Inv-loop : tie.InvT-loop
-Inv-loop t by last₀ i₀ last i = (i ≤ length t) × (falls by t ≡ chain (λ a x. leb (x + by) a) last (drop i t))
+Inv-loop w at more by end last₀ i₀ last i = (i ≤ at + more + 1) × (falls by (part at (at + more + 1) w) ≡ chain (λ a x. leb (x + by) a) last (part i (at + more + 1) w))
 
 abbrev μ-loop : tie.MeasureT-loop
-μ-loop t by last₀ i₀ last i = length t - i
+μ-loop w at more by end last₀ i₀ last i = at + more + 1 - i
 
-returns : tie.Need-returns Inv-loop μ-loop
-returns c = sym (chained-none _ _ (c .if1 .taken))
+add-end : tie.Need-add-end Inv-loop μ-loop
+add-end c = search needs
 
-shared-slice-read-last : tie.Need-shared-slice-read-last Inv-loop μ-loop
-shared-slice-read-last c = search needs
+add-end-2 : tie.Need-add-end-2 Inv-loop μ-loop
+add-end-2 c = search needs
 
-cast-last : tie.Need-cast-last Inv-loop μ-loop
-cast-last c = omega (arith, c .shared-slice-known .given 0)
-
-loop-holds : tie.Need-loop-holds Inv-loop μ-loop
-loop-holds c = (search needs, chained-first _ _ (search needs))
-
-mul-x : tie.Need-mul-x Inv-loop μ-loop
-mul-x c = search needs
-
-shared-slice-read-x : tie.Need-shared-slice-read-x Inv-loop μ-loop
-shared-slice-read-x c = search needs
-
-cast-x : tie.Need-cast-x Inv-loop μ-loop
-cast-x c = omega (arith, c .shared-slice-known2 .given (c .before .before .loop .i))
-
-add-if2 : tie.Need-add-if2 Inv-loop μ-loop
-add-if2 c = omega (arith, c .shared-slice-known2 .given (c .before .before .loop .i))
-
-returns-2 : tie.Need-returns-2 Inv-loop μ-loop
-returns-2 c =
-    let l = c .before .before .before .loop in
-    sym (l .inv .1 ∙ chain-next _ (l .last) (l .i) _ (search needs) ∙ rw (lt-leb _ _ (c .if2 .taken)))
+word-requires : tie.Need-word-requires Inv-loop μ-loop
+word-requires c κs = search needs
 
 add-i : tie.Need-add-i Inv-loop μ-loop
 add-i c = search needs
+
+loop-holds : tie.Need-loop-holds Inv-loop μ-loop
+loop-holds c =
+    let a = c .before .before .args in
+    (search needs, rw (c .word .ensures .0) (chained-first _ (a .at) (a .at + a .more + 1) _ (search needs) (search needs)))
+
+word-requires-2 : tie.Need-word-requires-2 Inv-loop μ-loop
+word-requires-2 c κs = search needs
+
+add-if1 : tie.Need-add-if1 Inv-loop μ-loop
+add-if1 c = search needs
+
+returns : tie.Need-returns Inv-loop μ-loop
+returns c =
+    let l = c .before .before .before .loop in
+    sym (l .inv .1 ∙ chain-next _ (l .i) _ _ (l .last) (search needs) (search needs) ∙ rw (lt-leb _ _ (rw (c .before .word2 .ensures .0) at (c .if1 .taken))))
+
+add-i-2 : tie.Need-add-i-2 Inv-loop μ-loop
+add-i-2 c = search needs
 
 loop-less : tie.Need-loop-less Inv-loop μ-loop
 loop-less c = search needs
@@ -55,10 +53,11 @@ loop-less c = search needs
 loop-again : tie.Need-loop-again Inv-loop μ-loop
 loop-again c =
     let l = c .before .before .before .loop in
-    (search needs, l .inv .1 ∙ chain-next _ (l .last) (l .i) _ (search needs) ∙ rw (le-leb _ _ (c .if2 .left)))
+    let e = c .before .word2 .ensures .0 in
+    (search needs, rw e (l .inv .1 ∙ chain-next _ (l .i) _ _ (l .last) (search needs) (search needs) ∙ rw (le-leb _ _ (rw e at (c .if1 .left)))))
 
-returns-3 : tie.Need-returns-3 Inv-loop μ-loop
-returns-3 c = sym (c .before .loop .inv .1 ∙ chain-all _ (c .before .loop .last) (c .before .loop .i) _ (search needs))
+returns-2 : tie.Need-returns-2 Inv-loop μ-loop
+returns-2 c = let l = c .before .loop in sym (l .inv .1 ∙ chain-all _ (l .i) _ _ (l .last) (search needs))
 
 pub falling-spec : {M : Type 1} → statement M
 falling-spec =
@@ -66,16 +65,15 @@ falling-spec =
     (tie.spec
     Inv-loop
     μ-loop
-    returns
-    shared-slice-read-last
-    cast-last
-    loop-holds
-    mul-x
-    shared-slice-read-x
-    cast-x
-    add-if2
-    returns-2
+    add-end
+    add-end-2
+    word-requires
     add-i
+    loop-holds
+    word-requires-2
+    add-if1
+    returns
+    add-i-2
     loop-less
     loop-again
-    returns-3)
+    returns-2)
