@@ -1,4 +1,5 @@
 // Tests of objects: whether the fields of every open and every closed one are right.
+use layout::counts::read_counts;
 use layout::words::LINK_WORDS;
 use layout::words::word;
 ghost use mathlib.Core.Path.{_≡_};
@@ -6,12 +7,13 @@ ghost use Prim.Native.Nat.{_+_, _*_, _<_};
 ghost use lib.ListN.{length};
 ghost use Rattle.lists.specs.Lists.{holds};
 ghost use Rattle.model.specs.Object.{widthOk};
-ghost use Rattle.layout.specs.Words.{linkWords, linksOf, linkAt, openDepth, closedCount};
+ghost use Rattle.layout.specs.Words.{linkWords, linksOf, linkAt, objectLimit, openDepth, closedCount, linksAt};
 ghost use Rattle.layout.specs.Fields.{fieldTests, fieldsOk, objectOk};
 ghost use mathlib.Core.Bool.{true};
 ghost use Rattle.layout.specs.Tables.{forAll};
 ghost use Rattle.layout.specs.Decode.{openAt, closedAt};
 ghost use Rattle.layout.specs.Sound.{headOk, tableTests};
+ghost use Rattle.fields.specs.Spans.{Within, Lies, objectIn};
 
 pub fn width_ok(width: usize) -> bool
     ensures { λ r. ⌜ r ≡ widthOk width ⌝ }
@@ -62,48 +64,85 @@ pub fn object_ok(bytes: &[u8], links: &[u32], count: usize, kids: usize) -> bool
     true
 }
 
+// Where an object lies: its bytes from `from` up to `to`, its links from number `first` up to number `last`.
+pub struct Span {
+    pub from: usize,
+    pub to: usize,
+    pub first: usize,
+    pub last: usize,
+}
+
+fn open_span(b: &[u8], w: &[u32], d: usize) -> Span
+    requires { ⌜ (headOk (length (now b)) (now w) ≡ true) × (holds (tableTests (now w)) ≡ true) × (d < openDepth (now w)) × (68 + d + 1 < length (now w)) ⌝ }
+    ensures { λ r. ⌜ Lies (now (b .entry)) (now (w .entry)) (openAt (now (b .entry)) (now (w .entry)) d) r ⌝ }
+{
+    Span {
+        from: word(w, 3 + d),
+        to: word(w, 3 + d + 1),
+        first: word(w, 68 + d),
+        last: word(w, 68 + d + 1),
+    }
+}
+
+fn closed_span(b: &[u8], w: &[u32], p: usize, i: usize) -> Span
+    requires { ⌜ (headOk (length (now b)) (now w) ≡ true) × (holds (tableTests (now w)) ≡ true) × (p ≡ objectLimit (now w)) × (i < closedCount (now w)) × (134 + p + i + 1 < length (now w)) ⌝ }
+    ensures { λ r. ⌜ Lies (now (b .entry)) (now (w .entry)) (closedAt (now (b .entry)) (now (w .entry)) i) r ⌝ }
+{
+    let at = 134 + p;
+    Span {
+        to: word(w, 133 + i),
+        from: word(w, 133 + i + 1),
+        last: word(w, at + i),
+        first: word(w, at + i + 1),
+    }
+}
+
+// The fields of the object that lies there, the links' records beginning at index `base`.
+fn span_ok(b: &[u8], w: &[u32], base: usize, s: Span, kids: usize) -> bool
+    requires { ⌜ (base ≡ linksAt (now w)) × Within (now b) (now w) s ⌝ }
+    ensures { λ r. ⌜ r ≡ objectOk kids (objectIn (now (b .entry)) (now (w .entry)) s) ⌝ }
+{
+    let from = s.from;
+    let to = s.to;
+    let first = s.first;
+    let last = s.last;
+    let begin = base + first * LINK_WORDS;
+    let end = base + last * LINK_WORDS;
+    object_ok(&b[from..to], &w[begin..end], last - first, kids)
+}
+
 // The fields of every open object.
 pub fn opens_ok(b: &[u8], w: &[u32]) -> bool
     requires { ⌜ (headOk (length (now b)) (now w) ≡ true) × (holds (tableTests (now w)) ≡ true) ⌝ }
     ensures { λ r. ⌜ r ≡ forAll (λ d. objectOk (closedCount (now (w .entry))) (openAt (now (b .entry)) (now (w .entry)) d)) (openDepth (now (w .entry))) ⌝ }
 {
-    let base = 135 + word(w, 0) * 2;
-    let kids = word(w, 1);
-    let mut i = word(w, 2);
-    while 0 < i {
-        let from = word(w, 3 + i - 1);
-        let to = word(w, 3 + i);
-        let first = word(w, 68 + i - 1);
-        let last = word(w, 68 + i);
-        let begin = base + first * LINK_WORDS;
-        let end = base + last * LINK_WORDS;
-        if !object_ok(&b[from..to], &w[begin..end], last - first, kids) {
+    let k = read_counts(b.len(), w);
+    let kids = k.closed;
+    let base = 135 + k.objects * 2;
+    let mut d = k.depth;
+    while 0 < d {
+        d -= 1;
+        if !span_ok(b, w, base, open_span(b, w, d), kids) {
             return false;
         }
-        i -= 1;
     }
     true
 }
 
-// The fields of every closed object.
+// The fields of every closed object: its children are below it.
 pub fn closed_ok(b: &[u8], w: &[u32]) -> bool
     requires { ⌜ (headOk (length (now b)) (now w) ≡ true) × (holds (tableTests (now w)) ≡ true) ⌝ }
     ensures { λ r. ⌜ r ≡ forAll (λ i. objectOk i (closedAt (now (b .entry)) (now (w .entry)) i)) (closedCount (now (w .entry))) ⌝ }
 {
-    let p = word(w, 0);
+    let k = read_counts(b.len(), w);
+    let p = k.objects;
     let base = 135 + p * 2;
-    let mut i = word(w, 1);
+    let mut i = k.closed;
     while 0 < i {
-        let to = word(w, 133 + i - 1);
-        let from = word(w, 133 + i);
-        let last = word(w, 134 + p + i - 1);
-        let first = word(w, 134 + p + i);
-        let begin = base + first * LINK_WORDS;
-        let end = base + last * LINK_WORDS;
-        if !object_ok(&b[from..to], &w[begin..end], last - first, i - 1) {
+        i -= 1;
+        if !span_ok(b, w, base, closed_span(b, w, p, i), i) {
             return false;
         }
-        i -= 1;
     }
     true
 }

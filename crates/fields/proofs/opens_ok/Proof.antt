@@ -8,40 +8,28 @@ use Rattle.layout.specs.Tables.{forAll}
 use Rattle.layout.specs.Words.{closedCount, openDepth}
 use Rattle.layout.specs.Fields.{objectOk}
 use Rattle.layout.specs.Decode.{openAt}
-use Rattle.layout.proofs.Facts.{head-facts, table-facts}
-use Rattle.layout.proofs.Objects.{Seen, open-seen, forAll-next, forAll-none}
+use Rattle.layout.proofs.Objects.{forAll-next, forAll-none}
 use Rattle.fields.proofs.opens_ok.Statement.{statement}
 use Rattle.fields.proofs.opens_ok.Tie as tie
 
 abbrev Inv-loop : tie.InvT-loop
-Inv-loop b w base kids i₀ i =
-    let right = forAll (λ d. objectOk (closedCount w) (openAt b w d)) in
-    (i ≤ openDepth w) × (right (openDepth w) ≡ right i)
+Inv-loop b w kids base d₀ d =
+    let right = forAll (λ k. objectOk (closedCount w) (openAt b w k)) in
+    (d ≤ openDepth w) × (right (openDepth w) ≡ right d)
 
 abbrev μ-loop : tie.MeasureT-loop
-μ-loop b w base kids i₀ i = i
+μ-loop b w kids base d₀ d = d
 
-seen : (c : tie.After-word7 Inv-loop μ-loop)
-    → let l = c .before .before .before .before .before in
-    let a = l .before .before .before .before .before .before .args in
-    Seen (a .b .now) (a .w .now) (openAt (a .b .now) (a .w .now) (l .loop .i - 1)) (c .before .before .before .word4 .result) (c .before .before .word5 .result) (c .before .word6 .result) (c .word7 .result)
-seen c =
-    let l = c .before .before .before .before .before in
-    let pre = l .before .before .before .before .before .before .pre in
-    let head = head-facts _ _ (pre .0) in
-    open-seen _ _ head (table-facts _ _ head (pre .1)) (l .loop .i) _ _ _ _ (c .before .before .before .before .loop-test .taken) (l .loop .inv .0)
-    (c .before .before .before .word4 .ensures .0) (c .before .before .word5 .ensures .0) (c .before .word6 .ensures .0) (c .word7 .ensures .0)
-
-tested : (c : tie.After-object-ok Inv-loop μ-loop)
-    → let l = c .before .before .before .before .before .before .before .before in
-    let a = l .before .before .before .before .before .before .args in
-    objectOk (closedCount (a .w .now)) (openAt (a .b .now) (a .w .now) (l .loop .i - 1)) ≡ c .object-ok .result
+tested : (c : tie.After-span-ok Inv-loop μ-loop)
+    → let l = c .before .before .before in
+    let a = l .before .before .before .before .before .args in
+    objectOk (closedCount (a .w .now)) (openAt (a .b .now) (a .w .now) (l .loop .d - 1)) ≡ c .span-ok .result
 tested c =
-    let kids = c .before .before .before .before .before .before .before .before .before .before in
-    ap (objectOk _) (seen (c .before .before .before) .objectIs) ∙ sym (rw (kids .word2 .ensures .0, kids .before .word .ensures .0) at (c .object-ok .ensures))
+    let kids = c .before .before .before .before .before .read-counts .ensures .closedIs in
+    ap (objectOk _) (c .before .open-span .ensures .objectIs) ∙ sym (rw kids at (c .span-ok .ensures))
 
-word-requires : tie.Need-word-requires Inv-loop μ-loop
-word-requires c κs = omega (arith, head-facts _ _ (c .before .before .pre .0))
+read-counts-requires : tie.Need-read-counts-requires Inv-loop μ-loop
+read-counts-requires c κs = c .before .before .pre .0
 
 mul-base : tie.Need-mul-base Inv-loop μ-loop
 mul-base c = search needs
@@ -49,102 +37,33 @@ mul-base c = search needs
 add-base : tie.Need-add-base Inv-loop μ-loop
 add-base c = search needs
 
-word-requires-2 : tie.Need-word-requires-2 Inv-loop μ-loop
-word-requires-2 c κs = omega (arith, head-facts _ _ (c .before .before .before .pre .0))
-
-word-requires-3 : tie.Need-word-requires-3 Inv-loop μ-loop
-word-requires-3 c κs = omega (arith, head-facts _ _ (c .before .before .before .before .pre .0))
-
 loop-holds : tie.Need-loop-holds Inv-loop μ-loop
-loop-holds c = (search needs, rw (c .word3 .ensures .0))
+loop-holds c = (search needs, rw (c .before .read-counts .ensures .depthIs))
 
-add-word : tie.Need-add-word Inv-loop μ-loop
-add-word c = search needs
+sub-d : tie.Need-sub-d Inv-loop μ-loop
+sub-d c = search needs
 
-sub-word : tie.Need-sub-word Inv-loop μ-loop
-sub-word c = search needs
+open-span-requires : tie.Need-open-span-requires Inv-loop μ-loop
+open-span-requires c κs = let pre = c .before .before .before .before .before .before .pre in (pre .0, pre .1, omega arith, omega arith)
 
-word-requires-4 : tie.Need-word-requires-4 Inv-loop μ-loop
-word-requires-4 c κs = omega (arith, head-facts _ _ (c .before .before .before .before .before .before .before .pre .0))
-
-add-word-2 : tie.Need-add-word-2 Inv-loop μ-loop
-add-word-2 c = search needs
-
-word-requires-5 : tie.Need-word-requires-5 Inv-loop μ-loop
-word-requires-5 c κs = omega (arith, head-facts _ _ (c .before .before .before .before .before .before .before .before .pre .0))
-
-add-word-3 : tie.Need-add-word-3 Inv-loop μ-loop
-add-word-3 c = search needs
-
-sub-word-2 : tie.Need-sub-word-2 Inv-loop μ-loop
-sub-word-2 c = search needs
-
-word-requires-6 : tie.Need-word-requires-6 Inv-loop μ-loop
-word-requires-6 c κs = omega (arith, head-facts _ _ (c .before .before .before .before .before .before .before .before .before .pre .0))
-
-add-word-4 : tie.Need-add-word-4 Inv-loop μ-loop
-add-word-4 c = search needs
-
-word-requires-7 : tie.Need-word-requires-7 Inv-loop μ-loop
-word-requires-7 c κs = omega (arith, head-facts _ _ (c .before .before .before .before .before .before .before .before .before .before .pre .0))
-
-mul-begin : tie.Need-mul-begin Inv-loop μ-loop
-mul-begin c = search needs
-
-add-begin : tie.Need-add-begin Inv-loop μ-loop
-add-begin c = search needs
-
-mul-end : tie.Need-mul-end Inv-loop μ-loop
-mul-end c = search needs
-
-add-end : tie.Need-add-end Inv-loop μ-loop
-add-end c = search needs
-
-sub-object-ok : tie.Need-sub-object-ok Inv-loop μ-loop
-sub-object-ok c = omega (arith, seen c)
-
-part-object-ok-start : tie.Need-part-object-ok-start Inv-loop μ-loop
-part-object-ok-start c = omega (arith, seen c)
-
-part-object-ok-end : tie.Need-part-object-ok-end Inv-loop μ-loop
-part-object-ok-end c = omega (arith, seen c)
-
-mul-object-ok : tie.Need-mul-object-ok Inv-loop μ-loop
-mul-object-ok c = search needs
-
-sub-object-ok-2 : tie.Need-sub-object-ok-2 Inv-loop μ-loop
-sub-object-ok-2 c = omega (arith, seen (c .before))
-
-part-object-ok-start-2 : tie.Need-part-object-ok-start-2 Inv-loop μ-loop
-part-object-ok-start-2 c = omega (arith, seen (c .before))
-
-part-object-ok-end-2 : tie.Need-part-object-ok-end-2 Inv-loop μ-loop
-part-object-ok-end-2 c = omega (arith, seen (c .before))
-
-sub-object-ok-3 : tie.Need-sub-object-ok-3 Inv-loop μ-loop
-sub-object-ok-3 c = omega (arith, seen (c .before .before))
-
-object-ok-requires : tie.Need-object-ok-requires Inv-loop μ-loop
-object-ok-requires c κs = rw (c .before .before .before .before .before .before .before .before .before .before .word .ensures .0) (seen (c .before .before) .count)
+span-ok-requires : tie.Need-span-ok-requires Inv-loop μ-loop
+span-ok-requires c κs = (omega arith, c .open-span .ensures .within)
 
 returns : tie.Need-returns Inv-loop μ-loop
 returns c =
-    let l = c .before .before .before .before .before .before .before .before .before .loop in
-    sym (l .inv .1 ∙ forAll-next _ (l .i) (c .before .before .before .before .before .before .before .before .loop-test .taken) ∙ rw (tested (c .before) ∙ not-true _ (c .if1 .taken)))
-
-sub-i : tie.Need-sub-i Inv-loop μ-loop
-sub-i c = search needs
+    let l = c .before .before .before .before .loop in
+    sym (l .inv .1 ∙ forAll-next _ (l .d) (c .before .before .before .loop-test .taken) ∙ rw (tested (c .before) ∙ not-true _ (c .if1 .taken)))
 
 loop-less : tie.Need-loop-less Inv-loop μ-loop
 loop-less c = search needs
 
 loop-again : tie.Need-loop-again Inv-loop μ-loop
 loop-again c =
-    let l = c .before .before .before .before .before .before .before .before .before .loop in
-    (search needs, l .inv .1 ∙ forAll-next _ (l .i) (c .before .before .before .before .before .before .before .before .loop-test .taken) ∙ rw (tested (c .before) ∙ not-false _ (c .if1 .left)))
+    let l = c .before .before .before .before .loop in
+    (search needs, l .inv .1 ∙ forAll-next _ (l .d) (c .before .before .before .loop-test .taken) ∙ rw (tested (c .before) ∙ not-false _ (c .if1 .left)))
 
 returns-2 : tie.Need-returns-2 Inv-loop μ-loop
-returns-2 c = sym (c .before .loop .inv .1 ∙ forAll-none _ (c .before .loop .i) (c .loop-test .left))
+returns-2 c = sym (c .before .loop .inv .1 ∙ forAll-none _ (c .before .loop .d) (c .loop-test .left))
 
 pub opens-ok-spec : {M : Type 1} → statement M
 opens-ok-spec =
@@ -152,37 +71,14 @@ opens-ok-spec =
     (tie.spec
     Inv-loop
     μ-loop
-    word-requires
+    read-counts-requires
     mul-base
     add-base
-    word-requires-2
-    word-requires-3
     loop-holds
-    add-word
-    sub-word
-    word-requires-4
-    add-word-2
-    word-requires-5
-    add-word-3
-    sub-word-2
-    word-requires-6
-    add-word-4
-    word-requires-7
-    mul-begin
-    add-begin
-    mul-end
-    add-end
-    sub-object-ok
-    part-object-ok-start
-    part-object-ok-end
-    mul-object-ok
-    sub-object-ok-2
-    part-object-ok-start-2
-    part-object-ok-end-2
-    sub-object-ok-3
-    object-ok-requires
+    sub-d
+    open-span-requires
+    span-ok-requires
     returns
-    sub-i
     loop-less
     loop-again
     returns-2)
