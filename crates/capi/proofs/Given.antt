@@ -2,8 +2,6 @@
 use Prim.Native.Nat.{ℕ}
 use mathlib.Core.Path.{_≡_, ap, _∙_}
 use mathlib.Core.List.{List}
-use Rattle.answer.specs.declared.tally.Tally.{Tally}
-use Rattle.answer.specs.declared.Overflow.{Overflow}
 use Rattle.answer.specs.declared.Answer.{Answer}
 use Rattle.answer.specs.declared.Closing.{Closing}
 use Rattle.answer.specs.declared.Packing.{Packing}
@@ -11,8 +9,9 @@ use Rattle.steps.specs.Steps.{Out, CloseOut, outcome, closing}
 use Rattle.steps.specs.Runs.{leftBy, leftByClose}
 use Rattle.model.specs.Told.{toldBy, toldByClose, toldByPack}
 use Rattle.steps.specs.Pack.{PackOut, packed}
-use Rattle.capi.specs.declared.numbers.Numbers.{Numbers}
-use Rattle.capi.specs.Numbers.{numbers, given, givenBy, packGiven, packGivenBy}
+use Rattle.numbers.specs.declared.Numbers.{Numbers}
+use Rattle.numbers.specs.Numbers.{numbers}
+use Rattle.capi.specs.Given.{given, givenBy, packGiven, packGivenBy}
 
 pub given-step : {r : Numbers} {b w : List ℕ} {o : Out} (a : Answer) → r ≡ numbers (toldBy a) → outcome a b w ≡ o → given r b w ≡ givenBy (leftBy o)
 given-step {b = b} {w = w} a e f = ap (λ r. given r b w) e ∙ ap (λ o. givenBy (leftBy o)) f
@@ -22,10 +21,3 @@ given-close {b = b} {w = w} a e f = ap (λ r. given r b w) e ∙ ap (λ o. given
 
 pub given-pack : {r : Numbers} {out work : List ℕ} {o : PackOut} (a : Packing) → r ≡ numbers (toldByPack a) → packed a out work ≡ o → packGiven r out work ≡ packGivenBy o
 given-pack {out = out} {work = work} a e f = ap (λ r. packGiven r out work) e ∙ ap packGivenBy f
-
--- equal numbers and equal links named, beside the same values, are the same ten
-pub same-numbers : {n m : ℕ} {o u : Overflow} (t : Tally) (i k : ℕ) → n ≡ m → o ≡ u
-    → numbers (record { number = n; tally = t; id = i; length = k; overflow = o }) ≡ numbers (record { number = m; tally = t; id = i; length = k; overflow = u })
-same-numbers {m = m} {o = o} t i k e f =
-    ap (λ n. numbers (record { number = n; tally = t; id = i; length = k; overflow = o })) e
-    ∙ ap (λ o. numbers (record { number = m; tally = t; id = i; length = k; overflow = o })) f

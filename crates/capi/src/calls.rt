@@ -1,12 +1,12 @@
 // The calls on the two stores.
-use crate::numbers::Numbers;
-use crate::numbers::tell;
-use crate::numbers::tell_close;
 use answer::ObjectId;
+use numbers::Numbers;
+use numbers::tell;
+use numbers::tell_close;
 ghost use mathlib.Core.Path.{_≡_};
 ghost use Rattle.steps.specs.Steps.{startStep, openStep, putStep, linkStep, closeStep, dropStep, tallyStep};
 ghost use Rattle.steps.specs.Runs.{leftBy, leftByClose};
-ghost use Rattle.capi.specs.Numbers.{given, givenBy};
+ghost use Rattle.capi.specs.Given.{given, givenBy};
 
 #[no_mangle]
 pub extern "C" fn scoterlime_start(

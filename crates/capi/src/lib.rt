@@ -4,7 +4,6 @@
 // its length, and that lent areas do not overlap, is the caller's part.
 mod calls;
 mod needs;
-mod numbers;
 mod packing;
 
 pub use calls::scoterlime_close;
@@ -16,5 +15,4 @@ pub use calls::scoterlime_start;
 pub use calls::scoterlime_tally;
 pub use needs::scoterlime_records_need;
 pub use needs::scoterlime_work_need;
-pub use numbers::Numbers;
 pub use packing::scoterlime_pack;

@@ -1,10 +1,10 @@
 // The eighth call.
-use crate::numbers::Numbers;
-use crate::numbers::tell_pack;
 use answer::ObjectId;
+use numbers::Numbers;
+use numbers::tell_pack;
 ghost use mathlib.Core.Path.{_≡_};
 ghost use Rattle.steps.specs.Pack.{packStep};
-ghost use Rattle.capi.specs.Numbers.{packGiven, packGivenBy};
+ghost use Rattle.capi.specs.Given.{packGiven, packGivenBy};
 
 #[no_mangle]
 pub extern "C" fn scoterlime_pack(

@@ -1,17 +1,14 @@
 -- By the answer's two cases.
 use mathlib.Core.Path.{refl, ap, sym, _∙_}
-use Rattle.model.specs.Told.{toldByClose}
-use Rattle.capi.specs.Numbers.{numbers}
-use Rattle.capi.proofs.Given.{same-numbers}
+use Rattle.model.specs.Told.{toldBy}
+use Rattle.numbers.specs.Numbers.{numbers}
+use Rattle.numbers.proofs.Same.{same-numbers}
 use borrow.Author.Needs.{needs}
-use Rattle.capi.proofs.numbers.tell_close.Statement.{statement}
-use Rattle.capi.proofs.numbers.tell_close.Tie as tie
+use Rattle.numbers.proofs.tell.Statement.{statement}
+use Rattle.numbers.proofs.tell.Tie as tie
 
 enum-known-a : tie.Need-enum-known-a
 enum-known-a c = search needs
-
-cast-ten : tie.Need-cast-ten
-cast-ten c = search needs
 
 nowhere-requires : tie.Need-nowhere-requires
 nowhere-requires c κs = search needs
@@ -26,17 +23,16 @@ tell-refused-requires : tie.Need-tell-refused-requires
 tell-refused-requires c κs = search needs
 
 returns : tie.Need-returns
-returns c = c .ten .ensures ∙ same-numbers _ _ _ refl (c .before .nowhere .ensures) ∙ sym (ap (λ a. numbers (toldByClose a)) (c .before .before .before .before .a .given .1))
+returns c = c .ten .ensures ∙ same-numbers _ _ _ refl (c .before .nowhere .ensures) ∙ sym (ap (λ a. numbers (toldBy a)) (c .before .before .before .a .given .1))
 
 returns-2 : tie.Need-returns-2
-returns-2 c = c .tell-refused .ensures ∙ sym (ap (λ a. numbers (toldByClose a)) (c .before .before .a2 .given .1))
+returns-2 c = c .tell-refused .ensures ∙ sym (ap (λ a. numbers (toldBy a)) (c .before .before .a2 .given .1))
 
-pub tell-close-spec : {M : Type 1} → statement M
-tell-close-spec =
+pub tell-spec : {M : Type 1} → statement M
+tell-spec =
     tie.close
     (tie.spec
     enum-known-a
-    cast-ten
     nowhere-requires
     ten-requires
     enum-known-a-2

@@ -1,26 +1,11 @@
--- What a caller in C is told: the ten numbers of an answer, and what the call left in lent memory.
+-- What a caller in C is given: the ten numbers of an answer, and what the call left in lent memory.
 use Prim.Native.Nat.{ℕ}
 use mathlib.Core.List.{List}
-use Rattle.model.specs.Told.{Told, toldByPack}
+use Rattle.model.specs.Told.{toldByPack}
 use Rattle.steps.specs.Runs.{Left}
 use Rattle.steps.specs.Pack.{PackOut}
-use Rattle.capi.specs.declared.numbers.Numbers.{Numbers}
-
--- paper 01's number and values, in the order of the struct
-abbrev pub numbers : Told → Numbers
-numbers t =
-    record {
-      number = t .number;
-      bytes = t .tally .bytes;
-      links = t .tally .links;
-      objects = t .tally .objects;
-      depth = t .tally .depth;
-      id = t .id;
-      length = t .length;
-      parent = t .overflow .parent .0;
-      field = t .overflow .field;
-      needed = t .overflow .needed;
-    }
+use Rattle.numbers.specs.declared.Numbers.{Numbers}
+use Rattle.numbers.specs.Numbers.{numbers}
 
 -- ---- a call on the two stores
 

@@ -1,11 +1,11 @@
 -- By the answer's two cases.
 use mathlib.Core.Path.{refl, ap, sym, _∙_}
 use Rattle.model.specs.Told.{toldByPack}
-use Rattle.capi.specs.Numbers.{numbers}
-use Rattle.capi.proofs.Given.{same-numbers}
+use Rattle.numbers.specs.Numbers.{numbers}
+use Rattle.numbers.proofs.Same.{same-numbers}
 use borrow.Author.Needs.{needs}
-use Rattle.capi.proofs.numbers.tell_pack.Statement.{statement}
-use Rattle.capi.proofs.numbers.tell_pack.Tie as tie
+use Rattle.numbers.proofs.tell_pack.Statement.{statement}
+use Rattle.numbers.proofs.tell_pack.Tie as tie
 
 enum-known-a : tie.Need-enum-known-a
 enum-known-a c = search needs

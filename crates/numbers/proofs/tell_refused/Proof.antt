@@ -1,9 +1,9 @@
 -- The refusal's number and the link it names, beside the tally.
 use mathlib.Core.Path.{_∙_}
-use Rattle.capi.proofs.Given.{same-numbers}
+use Rattle.numbers.proofs.Same.{same-numbers}
 use borrow.Author.Needs.{needs}
-use Rattle.capi.proofs.numbers.tell_refused.Statement.{statement}
-use Rattle.capi.proofs.numbers.tell_refused.Tie as tie
+use Rattle.numbers.proofs.tell_refused.Statement.{statement}
+use Rattle.numbers.proofs.tell_refused.Tie as tie
 
 number-of-requires : tie.Need-number-of-requires
 number-of-requires c κs = search needs

@@ -10,7 +10,7 @@ use answer::nowhere;
 use answer::number_of;
 ghost use mathlib.Core.Path.{_≡_};
 ghost use Rattle.model.specs.Told.{refusedTold, toldBy, toldByClose, toldByPack};
-ghost use Rattle.capi.specs.Numbers.{numbers};
+ghost use Rattle.numbers.specs.Numbers.{numbers};
 
 #[repr(C)]
 pub struct Numbers {
