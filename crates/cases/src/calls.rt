@@ -1,9 +1,9 @@
 // The eight calls, each by its letter.
-use crate::lines::number;
+use crate::lines::arguments;
+use crate::lines::letter;
 use crate::lines::unhex;
 use crate::memory::at_most;
-use crate::memory::fill_bytes;
-use crate::memory::fill_longs;
+use crate::memory::filled;
 use answer::ObjectId;
 use report::show_bytes;
 use report::show_longs;
@@ -12,117 +12,104 @@ use report::tell;
 use report::tell_close;
 use report::tell_pack;
 
-fn small(n: u64) -> u32 {
-    (n % 4294967296) as u32
+fn start(line: &[u8], store: &mut [u8], records: &mut [u32]) {
+    let limits = arguments(line, 0);
+    let told = session::start(store, records, limits.first, limits.second);
+    tell(b"start", told);
+}
+
+// The first n of the bytes.
+fn put(bytes: &[u8], n: usize, store: &mut [u8], records: &mut [u32]) {
+    let k = at_most(n, bytes.len());
+    let told = session::put(store, records, &bytes[..k]);
+    tell(b"put", told);
 }
 
 fn put_few(line: &[u8], store: &mut [u8], records: &mut [u32]) {
-    let b = unhex(line);
-    let space = b.space;
-    let bytes: &[u8] = &space;
-    let k = at_most(b.count as u64, bytes.len());
-    tell(b"put", session::put(store, records, &bytes[..k]));
+    let mut space: [u8; 16] = [0; 16];
+    let bytes: &mut [u8] = &mut space;
+    let n = unhex(line, bytes);
+    put(bytes, n, store, records);
 }
 
-// One byte many times, in memory that a pack's output is lent from.
-fn put_many(line: &[u8], store: &mut [u8], records: &mut [u32], space: &mut [u8]) {
-    let a = number(line, 2);
-    let b = number(line, a.next);
-    let k = at_most(b.value, space.len());
-    fill_bytes(&mut space[..k], (a.value % 256) as u8);
-    tell(b"put", session::put(store, records, &space[..k]));
+fn put_many(line: &[u8], store: &mut [u8], records: &mut [u32]) {
+    let n = arguments(line, 0);
+    let space = filled((n.first % 256) as u8);
+    put(&space, n.second as usize, store, records);
 }
 
-fn pack(id: u32, store: &[u8], records: &[u32], out: &mut [u8], work: &mut [u64]) {
-    fill_bytes(out, 0xa5);
-    fill_longs(work, 0xa5a5a5a5a5a5a5a5);
-    tell_pack(packer::pack(store, records, ObjectId(id), out, work));
+fn close(store: &mut [u8], records: &mut [u32]) {
+    let told = session::close(store, records);
+    tell_close(told);
+}
+
+fn drop(store: &mut [u8], records: &mut [u32]) {
+    let told = session::drop(store, records);
+    tell(b"drop", told);
+}
+
+fn open(store: &[u8], records: &mut [u32]) {
+    let told = session::open(store, records);
+    tell(b"open", told);
+}
+
+fn link(line: &[u8], store: &[u8], records: &mut [u32]) {
+    let n = arguments(line, 0);
+    let told = session::link(store, records, n.first, ObjectId(n.second));
+    tell(b"link", told);
+}
+
+fn pack_in(id: u32, store: &[u8], records: &[u32], out: &mut [u8], work: &mut [u64]) {
+    let told = packer::pack(store, records, ObjectId(id), out, work);
+    tell_pack(told);
     show_bytes(b"output=", out);
     show_longs(b"work=", work);
 }
 
-fn pack_line(line: &[u8], store: &[u8], records: &[u32], out: &mut [u8], work: &mut [u64]) {
-    let id = number(line, 2);
-    let o = number(line, id.next);
-    let w = number(line, o.next);
-    let n = at_most(o.value, out.len());
-    let k = at_most(w.value, work.len());
-    pack(
-        small(id.value),
-        store,
-        records,
-        &mut out[..n],
-        &mut work[..k],
-    );
+fn pack(line: &[u8], store: &[u8], records: &[u32]) {
+    let n = arguments(line, 0);
+    let mut space = filled(0xa5);
+    let mut long: [u64; 512] = [0xa5a5a5a5a5a5a5a5; 512];
+    let out: &mut [u8] = &mut space;
+    let work: &mut [u64] = &mut long;
+    let k = at_most(n.second as usize, out.len());
+    let w = at_most(n.third as usize, work.len());
+    pack_in(n.first, store, records, &mut out[..k], &mut work[..w]);
 }
 
-// The calls that read the byte store.
-fn reads(op: u8, line: &[u8], store: &[u8], records: &mut [u32]) {
-    if op == b'o' {
-        tell(b"open", session::open(store, records));
-        return;
-    }
-    if op == b'k' {
-        let width = number(line, 2);
-        let id = number(line, width.next);
-        tell(
-            b"link",
-            session::link(
-                store,
-                records,
-                small(width.value),
-                ObjectId(small(id.value)),
-            ),
-        );
-        return;
-    }
-    if op == b't' {
-        tell(b"tally", session::tally(store, records));
-        return;
-    }
-    if op == b'v' {
-        show_bytes(b"store=", store);
-        show_words(b"records=", records);
+// The calls that change neither store.
+fn reads(op: u8, line: &[u8], store: &[u8], records: &[u32]) {
+    match op {
+        b't' => tell(b"tally", session::tally(store, records)),
+        b'a' => pack(line, store, records),
+        b'v' => {
+            show_bytes(b"store=", store);
+            show_words(b"records=", records);
+        }
+        _ => {}
     }
 }
 
-// The calls that write it.
+// The calls that change both.
 fn writes(op: u8, line: &[u8], store: &mut [u8], records: &mut [u32]) {
-    if op == b's' {
-        let objects = number(line, 2);
-        let links = number(line, objects.next);
-        tell(
-            b"start",
-            session::start(store, records, small(objects.value), small(links.value)),
-        );
-        return;
-    }
-    if op == b'p' {
-        put_few(line, store, records);
-        return;
-    }
-    if op == b'e' {
-        tell_close(session::close(store, records));
-        return;
-    }
-    if op == b'd' {
-        tell(b"drop", session::drop(store, records));
+    match op {
+        b's' => start(line, store, records),
+        b'p' => put_few(line, store, records),
+        b'f' => put_many(line, store, records),
+        b'e' => close(store, records),
+        b'd' => drop(store, records),
+        _ => {}
     }
 }
 
-pub fn call(line: &[u8], store: &mut [u8], records: &mut [u32], out: &mut [u8], work: &mut [u64]) {
-    if line.len() == 0 {
-        return;
+pub fn call(line: &[u8], store: &mut [u8], records: &mut [u32]) {
+    let op = letter(line);
+    match op {
+        b'o' => open(store, records),
+        b'k' => link(line, store, records),
+        _ => {
+            reads(op, line, store, records);
+            writes(op, line, store, records);
+        }
     }
-    let op = line[0];
-    if op == b'f' {
-        put_many(line, store, records, out);
-        return;
-    }
-    if op == b'a' {
-        pack_line(line, store, records, out, work);
-        return;
-    }
-    writes(op, line, store, records);
-    reads(op, line, store, records);
 }

@@ -1,16 +1,24 @@
 // Lines of input: where one ends, and the numbers and bytes in it.
-ghost use mathlib.Core.Path.{_≡_};
 ghost use Prim.Native.Nat.{_≤_};
 ghost use lib.ListN.{length};
 
+pub struct Three {
+    pub first: u32,
+    pub second: u32,
+    pub third: u32,
+}
+
 pub struct Parsed {
-    pub value: u64,
+    pub value: u32,
     pub next: usize,
 }
 
-pub struct Bytes {
-    pub space: [u8; 16],
-    pub count: usize,
+// The letter of a line; 0 of an empty one.
+pub fn letter(line: &[u8]) -> u8 {
+    if line.len() == 0 {
+        return 0;
+    }
+    line[0]
 }
 
 // The next line feed from `at` on, or the end.
@@ -28,27 +36,42 @@ pub fn line_end(input: &[u8], at: usize) -> usize
     i
 }
 
-// The decimal number from `at` on, and the place past the byte that ends it.
-pub fn number(line: &[u8], at: usize) -> Parsed {
-    let mut value: u64 = 0;
-    let mut i = at;
-    while i < line.len() {
-        let d = line[i];
-        if d < 48 {
-            break;
-        }
-        value = (value * 10 + digit(d)) % 10000000000;
-        i += 1;
+// The three numbers behind the letter of the line at `at`. One that is not there means nothing.
+pub fn arguments(input: &[u8], at: usize) -> Three {
+    let letter = number(input, at);
+    let a = number(input, letter.next);
+    let b = number(input, a.next);
+    let c = number(input, b.next);
+    Three {
+        first: a.value,
+        second: b.value,
+        third: c.value,
     }
-    if line.len() <= i {
-        return Parsed {
-            value,
-            next: line.len(),
-        };
-    }
-    Parsed { value, next: i + 1 }
 }
 
+// A number with one digit more.
+fn with_digit(n: u32, d: u8) -> u32 {
+    ((n as u64 * 10 + digit(d)) % 4294967296) as u32
+}
+
+// The decimal number from `at` on, and the place past the byte that ends it.
+fn number(line: &[u8], at: usize) -> Parsed {
+    let mut value: u32 = 0;
+    let mut i = at;
+    while i < line.len() {
+        if line[i] < 48 {
+            return Parsed { value, next: i + 1 };
+        }
+        value = with_digit(value, line[i]);
+        i += 1;
+    }
+    Parsed {
+        value,
+        next: line.len(),
+    }
+}
+
+// The value of a decimal digit.
 fn digit(d: u8) -> u64
     ensures { λ r. ⌜ r ≤ 15 ⌝ }
 {
@@ -62,19 +85,22 @@ fn nibble(d: u8) -> u64
     if d < 58 { digit(d) } else { digit(d) + 9 }
 }
 
-// At most sixteen bytes in hex, from the third byte of a line on.
-pub fn unhex(line: &[u8]) -> Bytes
-    ensures { λ r. ⌜ 16 ≡ length (r .space) ⌝ }
-{
-    let mut space: [u8; 16] = [0; 16];
+// The byte of two hex digits.
+fn byte_of(high: u8, low: u8) -> u8 {
+    ((nibble(high) * 16 + nibble(low)) % 256) as u8
+}
+
+// The bytes in hex from the third byte of a line on, as far as there is space. Answers how many.
+pub fn unhex(line: &[u8], space: &mut [u8]) -> usize {
     let mut k = 0;
-    while k < 16 {
-        let i = 2 + k * 2;
-        if line.len() < i + 2 {
-            return Bytes { space, count: k };
+    let mut i = 3;
+    while i < line.len() {
+        if space.len() <= k {
+            break;
         }
-        space[k] = ((nibble(line[i]) * 16 + nibble(line[i + 1])) % 256) as u8;
+        space[k] = byte_of(line[i - 1], line[i]);
         k += 1;
+        i += 2;
     }
-    Bytes { space, count: k }
+    k
 }

@@ -1,33 +1,18 @@
-// Lent memory before a call.
+// Memory to lend from.
+ghost use mathlib.Core.Path.{_≡_};
 ghost use Prim.Native.Nat.{_≤_};
+ghost use lib.ListN.{length};
 
 // n, or the most that there is.
-pub fn at_most(n: u64, most: usize) -> usize
+pub fn at_most(n: usize, most: usize) -> usize
     ensures { λ r. ⌜ r ≤ most ⌝ }
 {
-    if n < most as u64 { n as usize } else { most }
+    if most < n { most } else { n }
 }
 
-pub fn fill_bytes(s: &mut [u8], v: u8) {
-    let mut i = 0;
-    while i < s.len() {
-        s[i] = v;
-        i += 1;
-    }
-}
-
-pub fn fill_words(s: &mut [u32], v: u32) {
-    let mut i = 0;
-    while i < s.len() {
-        s[i] = v;
-        i += 1;
-    }
-}
-
-pub fn fill_longs(s: &mut [u64], v: u64) {
-    let mut i = 0;
-    while i < s.len() {
-        s[i] = v;
-        i += 1;
-    }
+// The longest byte store, output or put, of one byte.
+pub fn filled(v: u8) -> [u8; 196608]
+    ensures { λ r. ⌜ 196608 ≡ length r ⌝ }
+{
+    [v; 196608]
 }
