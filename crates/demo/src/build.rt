@@ -1,76 +1,76 @@
-// The calls that build the session, each printed with its answer.
-use answer::Answer;
+// The calls that build the session, each printed with what it tells.
 use answer::ObjectId;
-use report::hex;
-use report::say;
-use report::say_close;
+use report::tell;
+use report::tell_close;
 use report::text;
 use report::value;
 
-fn start(store: &mut [u8], records: &mut [u32], objects: u32, links: u32) {
-    value(b"start ", objects as u64);
-    value(b" objects, ", links as u64);
-    say(b" links", session::start(store, records, objects, links));
+fn start(store: &mut [u8], records: &mut [u32]) {
+    let told = session::start(store, records, 4, 4);
+    tell(b"start", told);
 }
 
-// Opens an object and puts one byte into it. Answers how many were closed before.
-fn begin(store: &mut [u8], records: &mut [u32], byte: u8) -> usize {
-    let bytes: [u8; 1] = [byte];
-    let opened = session::open(store, records);
-    say(b"open                    ", opened);
+fn open(store: &[u8], records: &mut [u32]) {
+    let told = session::open(store, records);
+    tell(b"open", told);
+}
+
+fn put(store: &mut [u8], records: &mut [u32], letter: u8) {
+    let bytes: [u8; 1] = [letter];
+    let told = session::put(store, records, &bytes);
     text(b"put ");
-    hex(byte);
-    say(b"                  ", session::put(store, records, &bytes));
-    let Answer::Done(t) = opened else {
-        return 0;
-    };
-    t.objects
+    tell(&bytes, told);
 }
 
-fn link(store: &[u8], records: &mut [u32], width: u32, child: u32) {
-    value(b"link ", width as u64);
-    value(b" bytes to object ", child as u64);
-    say(b"", session::link(store, records, width, ObjectId(child)));
+fn link(store: &[u8], records: &mut [u32], child: u32) {
+    let told = session::link(store, records, 2, ObjectId(child));
+    value(b"link to ", child as u64);
+    tell(b"", told);
 }
 
-fn close(store: &mut [u8], records: &mut [u32], before: usize) {
-    let closed = session::close(store, records);
-    say_close(b"close                   ", closed, before);
+fn close(store: &mut [u8], records: &mut [u32]) {
+    let told = session::close(store, records);
+    tell_close(told);
 }
 
-fn leaf(store: &mut [u8], records: &mut [u32], byte: u8) {
-    let before = begin(store, records, byte);
-    close(store, records, before);
+fn drop(store: &mut [u8], records: &mut [u32]) {
+    let told = session::drop(store, records);
+    tell(b"drop", told);
 }
 
-fn parent(store: &mut [u8], records: &mut [u32], byte: u8, child: u32) {
-    let before = begin(store, records, byte);
-    link(store, records, 2, child);
-    close(store, records, before);
+fn tally(store: &[u8], records: &[u32]) {
+    tell(b"tally", session::tally(store, records));
 }
 
-// The link to 9 is refused and changes nothing.
-fn root(store: &mut [u8], records: &mut [u32]) {
-    let before = begin(store, records, 0x61);
-    link(store, records, 2, 1);
-    link(store, records, 2, 9);
-    link(store, records, 2, 2);
-    close(store, records, before);
+// The calls that leave the bytes as they are.
+fn mark(step: u8, store: &[u8], records: &mut [u32]) {
+    match step {
+        b'O' => open(store, records),
+        b'T' => tally(store, records),
+        _ => link(store, records, (step % 16) as u32),
+    }
 }
 
-// All below the root.
-fn lower(store: &mut [u8], records: &mut [u32]) {
-    leaf(store, records, 0x64);
-    parent(store, records, 0x62, 0);
-    leaf(store, records, 0x64);
-    parent(store, records, 0x63, 0);
+// O opens, a letter is put, a digit is linked to, C closes, D drops and T tallies.
+fn call(step: u8, store: &mut [u8], records: &mut [u32]) {
+    match step {
+        b'C' => close(store, records),
+        b'D' => drop(store, records),
+        b'a'..=b'e' => put(store, records, step),
+        _ => mark(step, store, records),
+    }
 }
 
+fn calls(steps: &[u8], store: &mut [u8], records: &mut [u32]) {
+    let mut i = 0;
+    while i < steps.len() {
+        call(steps[i], store, records);
+        i += 1;
+    }
+}
+
+// d, b over it, d a second time, c over it, and a over b and c. The link to 9 is refused and changes nothing, and e is dropped.
 pub fn build(store: &mut [u8], records: &mut [u32]) {
-    start(store, records, 4, 4);
-    lower(store, records);
-    root(store, records);
-    begin(store, records, 0x65);
-    say(b"drop                    ", session::drop(store, records));
-    say(b"tally                   ", session::tally(store, records));
+    start(store, records);
+    calls(b"OdCOb0COdCOc0COa192COeDT", store, records);
 }

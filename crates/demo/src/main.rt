@@ -1,4 +1,4 @@
-// Packs one small table through the eight calls, and draws where its offsets lead: 61 to 62 and 63, and both of these to 64.
+// Packs one small table through the eight calls, and draws where its offsets lead: a to b and c, and both of these to d.
 mod build;
 mod draw;
 
@@ -6,33 +6,37 @@ use answer::ObjectId;
 use answer::Packing;
 use build::build;
 use draw::draw;
-use report::say_pack;
+use report::tell_pack;
 use report::text;
-use report::value;
 
-fn pack(store: &[u8], records: &[u32], root: u32, out: &mut [u8], work: &mut [u64]) {
-    let packed = packer::pack(store, records, ObjectId(root), out, work);
-    value(b"pack object ", root as u64);
-    say_pack(b"           ", packed);
-    let Packing::Done(n, _) = packed else {
-        return;
+// The root is the last object closed.
+fn pack(store: &[u8], records: &[u32], out: &mut [u8], work: &mut [u64]) -> usize {
+    let told = packer::pack(store, records, ObjectId(3), out, work);
+    tell_pack(told);
+    let Packing::Done(n, _) = told else {
+        return 0;
     };
-    draw(out, n);
+    n
+}
+
+fn pack_and_draw(store: &[u8], records: &[u32]) {
+    let mut out: [u8; 16] = [0; 16];
+    let mut work: [u64; 48] = [0; 48];
+    let n = pack(store, records, &mut out, &mut work);
+    text(
+        b"\nThe packed table in hex: a is 61, d is 64. An offset counts from the first byte of the object that holds it.\n\n",
+    );
+    draw(&out, n);
 }
 
 // The memory that a session of 4 objects and 4 links needs, with room for 16 bytes.
 fn main() {
     let mut store: [u8; 16] = [0; 16];
     let mut records: [u32; 155] = [0; 155];
-    let mut out: [u8; 16] = [0; 16];
-    let mut work: [u64; 48] = [0; 48];
     text(
-        b"Four objects are written, each with one byte of its own, in hex: 61 links to 62 and 63, and both link to 64.\n",
+        b"Four objects of one letter each: a links to b and c, and both link to d. d is written twice and kept once.\n\
+After each call: its number (0 is done, 4 no such closed object), the bytes and links held, the objects closed and open.\n\n",
     );
-    text(
-        b"64 is written twice and kept once. After each call: the bytes and links held, the objects closed and open.\n\n",
-    );
-    text(b"call                      bytes  links closed   open  answer\n");
     build(&mut store, &mut records);
-    pack(&store, &records, 3, &mut out, &mut work);
+    pack_and_draw(&store, &records);
 }

@@ -3,6 +3,7 @@ use crate::print::text;
 use crate::print::value;
 use answer::Answer;
 use answer::Closing;
+use answer::ObjectId;
 use answer::Overflow;
 use answer::Packing;
 use answer::Tally;
@@ -10,55 +11,61 @@ use answer::named_by;
 use answer::nowhere;
 use answer::number_of;
 
-fn counts(name: &[u8], n: u64, t: Tally) {
+fn numbered(name: &[u8], n: u64) {
     text(name);
     value(b" number=", n);
+}
+
+fn counts(t: Tally) {
     value(b" bytes=", t.bytes as u64);
     value(b" links=", t.links as u64);
     value(b" objects=", t.objects as u64);
     value(b" depth=", t.depth as u64);
 }
 
+fn told(name: &[u8], n: u64, t: Tally) {
+    numbered(name, n);
+    counts(t);
+}
+
 pub fn tell(name: &[u8], a: Answer) {
     match a {
-        Answer::Done(t) => counts(name, 0, t),
-        Answer::Refused(r, t) => counts(name, number_of(r), t),
+        Answer::Done(t) => told(name, 0, t),
+        Answer::Refused(r, t) => told(name, number_of(r), t),
     }
+    text(b"\n");
+}
+
+fn closed(n: u64, t: Tally, id: ObjectId) {
+    told(b"close", n, t);
+    value(b" id=", id.0 as u64);
     text(b"\n");
 }
 
 pub fn tell_close(a: Closing) {
     match a {
-        Closing::Done(i, t) => {
-            counts(b"close", 0, t);
-            value(b" id=", i.0 as u64);
-        }
-        Closing::Refused(r, t) => {
-            counts(b"close", number_of(r), t);
-            value(b" id=", 0);
-        }
+        Closing::Done(i, t) => closed(0, t, i),
+        Closing::Refused(r, t) => closed(number_of(r), t, ObjectId(0)),
     }
-    text(b"\n");
 }
 
-fn pack_values(length: usize, o: Overflow) {
+fn overflow(o: Overflow) {
     let parent = o.parent;
-    value(b" length=", length as u64);
     value(b" parent=", parent.0 as u64);
     value(b" field=", o.field as u64);
     value(b" needed=", o.needed as u64);
+}
+
+fn packed(n: u64, t: Tally, length: usize, o: Overflow) {
+    told(b"pack", n, t);
+    value(b" length=", length as u64);
+    overflow(o);
     text(b"\n");
 }
 
 pub fn tell_pack(a: Packing) {
     match a {
-        Packing::Done(n, t) => {
-            counts(b"pack", 0, t);
-            pack_values(n, nowhere());
-        }
-        Packing::Refused(r, t) => {
-            counts(b"pack", number_of(r), t);
-            pack_values(0, named_by(r));
-        }
+        Packing::Done(n, t) => packed(0, t, n, nowhere()),
+        Packing::Refused(r, t) => packed(number_of(r), t, 0, named_by(r)),
     }
 }

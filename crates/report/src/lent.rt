@@ -39,8 +39,8 @@ pub fn show_bytes(name: &[u8], bytes: &[u8]) {
     text(b"\n");
 }
 
-// A number behind those before it.
-fn print_next(i: usize, n: u64) {
+// Number i of a line, behind those before it.
+pub fn print_next(i: usize, n: u64) {
     if 0 < i {
         text(b" ");
     }

@@ -4,12 +4,11 @@
 mod calls;
 mod lent;
 mod print;
-mod refusals;
-mod words;
 
 pub use calls::tell;
 pub use calls::tell_close;
 pub use calls::tell_pack;
+pub use lent::print_next;
 pub use lent::show_bytes;
 pub use lent::show_longs;
 pub use lent::show_words;
@@ -18,6 +17,3 @@ pub use print::hex;
 pub use print::repeat;
 pub use print::text;
 pub use print::value;
-pub use words::say;
-pub use words::say_close;
-pub use words::say_pack;

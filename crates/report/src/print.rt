@@ -24,11 +24,10 @@ pub fn repeat(bytes: &[u8], n: usize) {
     }
 }
 
-// A number below a hundred, right-aligned behind the margin; a longer one is not cut.
-pub fn column(margin: &[u8], n: u64) {
-    text(margin);
+// A number below a hundred, in three columns; a longer one is not cut.
+pub fn column(n: u64) {
     if n < 10 {
         text(b" ");
     }
-    io::print_decimal(1, n);
+    value(b" ", n);
 }

@@ -6,22 +6,13 @@ use Rattle.demo.proofs.draw.places.Statement.{statement}
 use Rattle.demo.proofs.draw.places.Tie as tie
 
 abbrev Inv-loop : tie.InvT-loop
-Inv-loop table i₀ t4 t5 i = i ≤ length table
+Inv-loop table i₀ i = i ≤ length table
 
 abbrev μ-loop : tie.MeasureT-loop
-μ-loop table i₀ t4 t5 i = length table - i
-
-slice-aggregate-text : tie.Need-slice-aggregate-text Inv-loop μ-loop
-slice-aggregate-text c = search needs
-
-text-requires : tie.Need-text-requires Inv-loop μ-loop
-text-requires c κs = search needs
+μ-loop table i₀ i = length table - i
 
 loop-holds : tie.Need-loop-holds Inv-loop μ-loop
 loop-holds c = search needs
-
-slice-aggregate-column : tie.Need-slice-aggregate-column Inv-loop μ-loop
-slice-aggregate-column c = search needs
 
 column-requires : tie.Need-column-requires Inv-loop μ-loop
 column-requires c κs = search needs
@@ -35,29 +26,10 @@ loop-less c = search needs
 loop-again : tie.Need-loop-again Inv-loop μ-loop
 loop-again c = search needs
 
-slice-aggregate-text-2 : tie.Need-slice-aggregate-text-2 Inv-loop μ-loop
-slice-aggregate-text-2 c = search needs
-
-text-requires-2 : tie.Need-text-requires-2 Inv-loop μ-loop
-text-requires-2 c κs = search needs
-
 returns : tie.Need-returns Inv-loop μ-loop
 returns c = search needs
 
 pub places-spec : {M : Type 1} → statement M
 places-spec =
     tie.close
-    (tie.spec
-    Inv-loop
-    μ-loop
-    slice-aggregate-text
-    text-requires
-    loop-holds
-    slice-aggregate-column
-    column-requires
-    add-i
-    loop-less
-    loop-again
-    slice-aggregate-text-2
-    text-requires-2
-    returns)
+    (tie.spec Inv-loop μ-loop loop-holds column-requires add-i loop-less loop-again returns)
