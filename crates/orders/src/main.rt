@@ -6,26 +6,12 @@ ghost use Prim.Native.Nat.{_+_, _*_, _≤_};
 ghost use lib.ListN.{length};
 ghost use Rattle.placing.specs.Run.{OrderIds};
 ghost use Rattle.orders.specs.Given.{given, Loaded, Ready};
+use answer::Overflow;
 use fitting::Look;
 use order::trial::try_order;
-
-fn print(text: &[u8]) {
-    io::write_all(1, text);
-}
-
-fn print_value(n: u64) {
-    io::print_decimal(1, n);
-}
-
-// Number t of a line.
-fn print_item(t: usize, n: u64) {
-    if t == 0 {
-        print_value(n);
-        return;
-    }
-    print(b" ");
-    print_value(n);
-}
+use report::print_next;
+use report::text;
+use report::value;
 
 // The r placed nodes.
 fn print_ids(work: &[u64], p: usize, g: usize, r: usize)
@@ -33,7 +19,7 @@ fn print_ids(work: &[u64], p: usize, g: usize, r: usize)
 {
     let mut t = 0;
     while t < r {
-        print_item(t, work[g + p * 4 + t]);
+        print_next(t, work[g + p * 4 + t]);
         t += 1;
     }
 }
@@ -45,22 +31,34 @@ fn print_places(work: &[u64], p: usize, g: usize, r: usize)
     let mut t = 0;
     while t < r {
         let i = work[g + p * 4 + t] as usize;
-        print_item(t, work[g + p * 5 + i]);
+        print_next(t, work[g + p * 5 + i]);
         t += 1;
     }
 }
 
+fn print_order(name: &[u8], work: &[u64], p: usize, g: usize, r: usize)
+    requires { ⌜ (g + p * 6 ≤ length (now work)) × OrderIds p g p r (now work) ⌝ }
+{
+    text(name);
+    print_ids(work, p, g, r);
+    text(b"\nplaces=");
+    print_places(work, p, g, r);
+}
+
+fn print_overflow(o: Overflow) {
+    let parent = o.parent;
+    value(b"", parent.0 as u64);
+    value(b" ", o.field as u64);
+    value(b" ", o.needed as u64);
+}
+
 fn print_look(look: Look) {
+    text(b"\noverflow=");
     match look {
-        Look::Fits => print(b"none"),
-        Look::Over(u) => {
-            print_value(u.parent.0 as u64);
-            print(b" ");
-            print_value(u.field as u64);
-            print(b" ");
-            print_value(u.needed as u64);
-        }
+        Look::Fits => text(b"none"),
+        Look::Over(o) => print_overflow(o),
     }
+    text(b"\n");
 }
 
 fn show_order(name: &[u8], work: &mut [u64], p: usize, g: usize, keyed: bool)
@@ -68,14 +66,21 @@ fn show_order(name: &[u8], work: &mut [u64], p: usize, g: usize, keyed: bool)
     ensures { λ _. ⌜ Ready p g (now (work .exit)) ⌝ }
 {
     let a = try_order(work, p, g, p, p - 1, keyed);
-    print(name);
-    print_ids(work, p, g, a.placed);
-    print(b"\nplaces=");
-    print_places(work, p, g, a.placed);
-    print(b"\noverflow=");
+    print_order(name, work, p, g, a.placed);
     let look = a.look;
     print_look(look);
-    print(b"\n");
+}
+
+fn show_orders(work: &mut [u64], p: usize, g: usize)
+    requires { ⌜ Ready p g (now work) ⌝ }
+{
+    show_order(b"\nkahn=", work, p, g, false);
+    show_order(b"distance=", work, p, g, true);
+}
+
+fn print_name(name: &[u8]) {
+    text(b"graph ");
+    text(name);
 }
 
 // The words, from place `at` of the memory on.
@@ -98,11 +103,8 @@ fn show(name: &[u8], nodes: &[u64], links: &[u64], p: usize)
     let work: &mut [u64] = &mut space;
     load(nodes, work, 0);
     load(links, work, nodes.len());
-    print(b"graph ");
-    print(name);
-    let g = nodes.len() + links.len();
-    show_order(b"\nkahn=", work, p, g, false);
-    show_order(b"distance=", work, p, g, true);
+    print_name(name);
+    show_orders(work, p, nodes.len() + links.len());
 }
 
 fn graph_5() {

@@ -13,23 +13,23 @@ abbrev μ-loop : tie.MeasureT-loop
 loop-holds : tie.Need-loop-holds Inv-loop μ-loop
 loop-holds c = search needs
 
-mul-print-item : tie.Need-mul-print-item Inv-loop μ-loop
-mul-print-item c = search needs
+mul-print-next : tie.Need-mul-print-next Inv-loop μ-loop
+mul-print-next c = search needs
 
-add-print-item : tie.Need-add-print-item Inv-loop μ-loop
-add-print-item c = search needs
+add-print-next : tie.Need-add-print-next Inv-loop μ-loop
+add-print-next c = search needs
 
-add-print-item-2 : tie.Need-add-print-item-2 Inv-loop μ-loop
-add-print-item-2 c = search needs
+add-print-next-2 : tie.Need-add-print-next-2 Inv-loop μ-loop
+add-print-next-2 c = search needs
 
-mul-print-item-2 : tie.Need-mul-print-item-2 Inv-loop μ-loop
-mul-print-item-2 c = search needs
+mul-print-next-2 : tie.Need-mul-print-next-2 Inv-loop μ-loop
+mul-print-next-2 c = search needs
 
-shared-slice-read-print-item : tie.Need-shared-slice-read-print-item Inv-loop μ-loop
-shared-slice-read-print-item c = search needs
+shared-slice-read-print-next : tie.Need-shared-slice-read-print-next Inv-loop μ-loop
+shared-slice-read-print-next c = search needs
 
-print-item-requires : tie.Need-print-item-requires Inv-loop μ-loop
-print-item-requires c κs = search needs
+print-next-requires : tie.Need-print-next-requires Inv-loop μ-loop
+print-next-requires c κs = search needs
 
 add-t : tie.Need-add-t Inv-loop μ-loop
 add-t c = search needs
@@ -50,12 +50,12 @@ print-ids-spec =
     Inv-loop
     μ-loop
     loop-holds
-    mul-print-item
-    add-print-item
-    add-print-item-2
-    mul-print-item-2
-    shared-slice-read-print-item
-    print-item-requires
+    mul-print-next
+    add-print-next
+    add-print-next-2
+    mul-print-next-2
+    shared-slice-read-print-next
+    print-next-requires
     add-t
     loop-less
     loop-again

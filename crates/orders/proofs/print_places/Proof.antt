@@ -30,32 +30,32 @@ mul-i-2 c = search needs
 shared-slice-read-i : tie.Need-shared-slice-read-i Inv-loop μ-loop
 shared-slice-read-i c = search needs
 
-mul-print-item : tie.Need-mul-print-item Inv-loop μ-loop
-mul-print-item c = search needs
+mul-print-next : tie.Need-mul-print-next Inv-loop μ-loop
+mul-print-next c = search needs
 
-add-print-item : tie.Need-add-print-item Inv-loop μ-loop
-add-print-item c = search needs
+add-print-next : tie.Need-add-print-next Inv-loop μ-loop
+add-print-next c = search needs
 
-add-print-item-2 : tie.Need-add-print-item-2 Inv-loop μ-loop
-add-print-item-2 c =
+add-print-next-2 : tie.Need-add-print-next-2 Inv-loop μ-loop
+add-print-next-2 c =
     let pre = c .before .before .before .before .pre in
     let test = c .before .loop-test .taken in
     omega (arith, order-id (pre .0) (pre .1) test)
 
-mul-print-item-2 : tie.Need-mul-print-item-2 Inv-loop μ-loop
-mul-print-item-2 c =
+mul-print-next-2 : tie.Need-mul-print-next-2 Inv-loop μ-loop
+mul-print-next-2 c =
     let pre = c .before .before .before .before .pre in
     let test = c .before .loop-test .taken in
     omega (arith, order-id (pre .0) (pre .1) test)
 
-shared-slice-read-print-item : tie.Need-shared-slice-read-print-item Inv-loop μ-loop
-shared-slice-read-print-item c =
+shared-slice-read-print-next : tie.Need-shared-slice-read-print-next Inv-loop μ-loop
+shared-slice-read-print-next c =
     let pre = c .before .before .before .before .before .pre in
     let test = c .before .before .loop-test .taken in
     omega (arith, order-id (pre .0) (pre .1) test)
 
-print-item-requires : tie.Need-print-item-requires Inv-loop μ-loop
-print-item-requires c κs = search needs
+print-next-requires : tie.Need-print-next-requires Inv-loop μ-loop
+print-next-requires c κs = search needs
 
 add-t : tie.Need-add-t Inv-loop μ-loop
 add-t c = search needs
@@ -81,12 +81,12 @@ print-places-spec =
     add-i-2
     mul-i-2
     shared-slice-read-i
-    mul-print-item
-    add-print-item
-    add-print-item-2
-    mul-print-item-2
-    shared-slice-read-print-item
-    print-item-requires
+    mul-print-next
+    add-print-next
+    add-print-next-2
+    mul-print-next-2
+    shared-slice-read-print-next
+    print-next-requires
     add-t
     loop-less
     loop-again
