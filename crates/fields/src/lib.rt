@@ -72,7 +72,7 @@ pub struct Span {
     pub last: usize,
 }
 
-fn open_span(b: &[u8], w: &[u32], d: usize) -> Span
+pub fn open_span(b: &[u8], w: &[u32], d: usize) -> Span
     requires { ⌜ (headOk (length (now b)) (now w) ≡ true) × (holds (tableTests (now w)) ≡ true) × (d < openDepth (now w)) × (68 + d + 1 < length (now w)) ⌝ }
     ensures { λ r. ⌜ Lies (now (b .entry)) (now (w .entry)) (openAt (now (b .entry)) (now (w .entry)) d) r ⌝ }
 {
@@ -84,7 +84,7 @@ fn open_span(b: &[u8], w: &[u32], d: usize) -> Span
     }
 }
 
-fn closed_span(b: &[u8], w: &[u32], p: usize, i: usize) -> Span
+pub fn closed_span(b: &[u8], w: &[u32], p: usize, i: usize) -> Span
     requires { ⌜ (headOk (length (now b)) (now w) ≡ true) × (holds (tableTests (now w)) ≡ true) × (p ≡ objectLimit (now w)) × (i < closedCount (now w)) × (134 + p + i + 1 < length (now w)) ⌝ }
     ensures { λ r. ⌜ Lies (now (b .entry)) (now (w .entry)) (closedAt (now (b .entry)) (now (w .entry)) i) r ⌝ }
 {

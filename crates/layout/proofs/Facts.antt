@@ -101,6 +101,15 @@ tables-of s = simp (s .rise, s .linkRise, s .fall, s .linkFall, le-leb _ _ (s .a
 pub sound-tables : {b w : List ℕ} → Sound b w → Tables (length b) w
 sound-tables s = table-facts _ _ (s .head) (tables-of s)
 
+module _ (b w : List ℕ) (h : sound b w ≡ true) where
+  pub sound-head : headOk (length b) w ≡ true
+  unfolding sound soundTests
+  sound-head = holds-at (soundTests b w) h 0
+
+  pub sound-tests : holds (tableTests w) ≡ true
+  unfolding sound soundTests
+  sound-tests = holds-at (soundTests b w) h 1
+
 pub sound-facts : (b w : List ℕ) → sound b w ≡ true → Sound b w
 unfolding sound soundTests tableTests
 sound-facts b w h =

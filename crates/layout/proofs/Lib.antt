@@ -2,4 +2,3 @@ pub mod Entries
 pub mod Facts
 pub mod FieldTests
 pub mod Links
-pub mod Objects

@@ -1,17 +1,12 @@
 -- The parts of pack's code joined: the graph copied, its table measured and laid, the work memory cleared.
-use mathlib.Core.Path.{_≡_, refl, sym, ap, _∙_}
+use mathlib.Core.Path.{_≡_, sym, ap, _∙_}
 use Prim.Native.Nat.{ℕ, _+_, _*_, _≤_, _<_}
 use mathlib.Core.List.{List, _∷_}
-use mathlib.Core.Bool.{false, not}
 use native.Mathlib.Omega.{arith}
-use borrow.Author.Tests.{eq-eqb, ne-eqb, le-leb, lt-leb, lt-ltb, le-ltb}
 use lib.ListN.{length, replicate, length-replicate}
-use lib.Dec.{eqb, ltb}
 use Rattle.lists.specs.Lists.{over}
-use Rattle.lists.proofs.Runs.{over-none}
 use Rattle.regions.specs.Region.{Kept}
 use Rattle.regions.proofs.Frame.{kept-then, kept-less}
-use Rattle.answer.specs.Number.{noTally, beside}
 use Rattle.answer.specs.declared.tally.Tally.{Tally}
 use Rattle.answer.specs.declared.Overflow.{Overflow}
 use Rattle.answer.specs.declared.Refusal.{Refusal}
@@ -20,12 +15,10 @@ use Rattle.answer.specs.declared.Packing.{Packing}
 use Rattle.answer.specs.declared.Packing.the-variants.{Done, Refused}
 use Rattle.model.specs.Graph.{Graph, graphOf}
 use Rattle.model.specs.Table.{Outcome, placed, overflow, arranged, tableLength}
-use Rattle.model.specs.Judge.{Test, refused, verdict, outputShort, overflows}
+use Rattle.model.specs.Judge.{verdict, outputShort, overflows}
 use Rattle.model.specs.Session.{tableIn}
-use Rattle.model.proofs.Refusals.{Comes, this, next, verdict-is}
-use Rattle.layout.specs.Words.{objectLimit, linkLimit, closedCount, openDepth}
+use Rattle.layout.specs.Words.{objectLimit, linkLimit, closedCount}
 use Rattle.layout.specs.Decode.{decode}
-use Rattle.layout.specs.Sound.{sound}
 use Rattle.layout.specs.declared.state.State.{State}
 use Rattle.steps.specs.Steps.{tallyIn}
 use Rattle.steps.proofs.Held.{Held}
@@ -35,7 +28,7 @@ use Rattle.layout.specs.Need.{workNeed}
 use Rattle.fitting.specs.declared.Look.{Look}
 use Rattle.fitting.specs.declared.Look.the-variants.{Fits, Over}
 use Rattle.copying.specs.Copy.{Copied, graphEnd}
-use Rattle.steps.specs.Pack.{PackOut, packed, cleared, clears, settle, packBy, packStep}
+use Rattle.steps.specs.Pack.{packed, cleared, packBy, packStep}
 use Rattle.laying.specs.Lay.{Laying, Laid, lookIn}
 use Rattle.packer.specs.Packable.{Packable, Packed}
 use Rattle.copying.proofs.Standing.{stands-kept, tidy-read}

@@ -12,16 +12,17 @@ use lib.Dec.{eqb}
 use Rattle.lists.specs.Lists.{part, sameList, firstThat}
 use Rattle.lists.proofs.Alike.{alike, length-run, runs-differ, alike-next, alike-not, alike-all}
 use Rattle.model.specs.Object.{Object, noObject, sameLink, sameObject}
-use Rattle.layout.specs.Words.{openDepth, closedCount, endsAt, linkEndsAt, beginsAt, linkBeginsAt, linksAt, linkWords, linksOf}
-use Rattle.layout.specs.Decode.{closedAt, closedTo}
+use Rattle.layout.specs.Words.{objectLimit, closedCount, linksAt, linkWords, linksOf}
+use Rattle.layout.specs.Decode.{openAt, closedAt, closedTo}
 use Rattle.layout.specs.Known.{Read}
 use Rattle.layout.specs.declared.state.State.{State}
-use Rattle.layout.proofs.Facts.{sound-facts, sound-tables, sound-known}
-use Rattle.layout.proofs.Objects.{Seen, open-seen, closed-seen}
+use Rattle.layout.proofs.Facts.{sound-head, sound-tests}
+use Rattle.fields.specs.declared.Span.{Span}
+use Rattle.fields.specs.Spans.{Within, Lies}
 use Rattle.steps.specs.Steps.{inner, twinIn}
 use Rattle.steps.proofs.Tallies.{length-closed, closed-at}
-use Rattle.search.specs.declared.Span.{Span}
-use Rattle.search.specs.Span.{Lies, Tables, Ground}
+use Rattle.search.specs.declared.Runs.{Runs}
+use Rattle.search.specs.Runs.{runsOf, Held, Tested, Ground}
 
 -- ---- the closed objects by id
 
@@ -69,65 +70,34 @@ same-links i k (x ∷ y ∷ z ∷ v) (x′ ∷ []) h m = absurd (omega arith)
 same-links i k (x ∷ y ∷ z ∷ v) (x′ ∷ y′ ∷ []) h m = absurd (omega arith)
 same-links i k (x ∷ y ∷ z ∷ v) (x′ ∷ y′ ∷ z′ ∷ w) h m = rw (same-links (i - 1) (k - 1) v w (omega arith) (omega arith), and-assoc, and-assoc)
 
--- the span between the entries of a table and of its links' table
-abbrev pub spanOf : ℕ → ℕ → ℕ → ℕ → ℕ → Span
-spanOf objects from to first last =
-    record { from = from; size = to - from; at = 135 + objects * 2 + first * linkWords; words = (last - first) * linkWords }
+-- an object that lies there has these runs
+module _ {b w : List ℕ} {s : Span} (objects : ℕ) (e : objects ≡ objectLimit w) where
+  pub held : {o : Object} {r : Runs} → r ≡ runsOf objects s → Lies b w o s → Held b w o r
+  held z x =
+      let k = x .within in
+      let bytes : s .from + (s .to - s .from) ≡ s .to = omega (arith, k .order) in
+      let words : linksAt w + s .first * linkWords + (s .last - s .first) * linkWords ≡ linksAt w + s .last * linkWords = omega (arith, k .linkOrder) in
+      rw z
+      (record {
+        bytesIn = omega (arith, k .order, k .inside);
+        wordsIn = omega (arith, k .linkOrder, k .room);
+        count = s .last - s .first;
+        wordsIs = refl;
+        objectIs = rw (e, bytes, words) (x .objectIs);
+      })
 
-lies : {b w : List ℕ} {o : Object} {from to first last : ℕ} (objects : ℕ) → 135 + objects * 2 ≡ linksAt w → Seen b w o from to first last
-    → Lies b w o (spanOf objects from to first last)
-lies {w = w} {from = from} {to = to} {first = first} {last = last} objects e x =
-    let bytes : from + (to - from) ≡ to = omega (arith, x .order) in
-    let words : linksAt w + first * linkWords + (last - first) * linkWords ≡ linksAt w + last * linkWords = omega (arith, x .linkOrder) in
-    record {
-      bytesIn = omega (arith, x .order, x .inside);
-      wordsIn = omega (arith, x .linkOrder, x .room);
-      count = last - first;
-      wordsIs = refl;
-      objectIs = rw (e, bytes, words) (x .objectIs);
-    }
+  -- its links' words end inside the record store
+  pub held-room : Within b w s → 135 + objects * 2 + s .last * linkWords ≤ length w
+  held-room k = omega (arith, k .room)
 
--- the innermost open object, by the words below the last entries
-pub inner-seen : {b w : List ℕ} {s : State} {own first : ℕ} → Read b w s → 0 < openDepth w
-    → own ≡ getD w (endsAt + (s .depth - 1)) 0 → first ≡ getD w (linkEndsAt + (s .depth - 1)) 0
-    → Seen b w (inner b w) own (s .top) first (s .«link_top»)
-inner-seen {b} {w} {s} {own} {first} r h p q =
-    let below : (at : ℕ) → at + openDepth w - 1 ≡ at + (s .depth - 1) = λ at. omega (arith, r .depthIs) in
-    let f = sound-known r in
-    open-seen b w (f .head) (sound-tables f) (openDepth w) own (s .top) first (s .«link_top») h (omega arith)
-    (rw (below endsAt) p) (r .topIs) (rw (below linkEndsAt) q) (r .linkTopIs)
+module _ {b w : List ℕ} {s : State} (r : Read b w s) where
+  pub tested : Tested b w (s .objects)
+  tested = record { head = sound-head b w (r .isSound); tables = sound-tests b w (r .isSound); objectsIs = r .objectsIs; room = omega arith; within = omega arith }
 
-pub inner-lies : {b w : List ℕ} {s : State} {own first : ℕ} → Read b w s → Seen b w (inner b w) own (s .top) first (s .«link_top»)
-    → Lies b w (inner b w) (spanOf (s .objects) own (s .top) first (s .«link_top»))
-inner-lies r x = lies _ (omega (arith, r .objectsIs)) x
+  pub ground : {own : Span} {o : Runs} → o ≡ runsOf (s .objects) own → Lies b w (openAt b w (s .depth - 1)) own → Ground b w (s .objects) (s .closed) o
+  ground z l = record { tested = tested; closedIs = r .closedIs; innerHeld = held (s .objects) (r .objectsIs) z (rw (r .depthIs) at l) }
 
--- closed object i, by the words around it
-module _ {b w : List ℕ} {objects : ℕ} (k : Tables b w objects) (i : ℕ) {from to first last : ℕ} where
-  pub closed-here : i < closedCount w → from ≡ getD w (beginsAt + i + 1) 0 → to ≡ getD w (beginsAt + i) 0
-      → first ≡ getD w (134 + objects + i + 1) 0 → last ≡ getD w (134 + objects + i) 0
-      → Seen b w (closedAt b w i) from to first last
-  closed-here h p q u v =
-      let f = sound-facts b w (k .isSound) in
-      let at : 134 + objects ≡ linkBeginsAt w = omega (arith, k .objectsIs) in
-      let above : (at : ℕ) → at + (i + 1) ≡ at + i + 1 = λ at. omega arith in
-      let below : (at : ℕ) → at + (i + 1) - 1 ≡ at + i = λ at. omega arith in
-      let same : i + 1 - 1 ≡ i = omega arith in
-      rw same at
-      (closed-seen b w (f .head) (sound-tables f) (i + 1) from to first last (omega arith) (omega arith)
-      (rw (below beginsAt) q) (rw (above beginsAt) p) (rw (below (linkBeginsAt w), ← at) v) (rw (above (linkBeginsAt w), ← at) u))
-
-  pub closed-lies : Seen b w (closedAt b w i) from to first last → Lies b w (closedAt b w i) (spanOf objects from to first last)
-  closed-lies x = lies objects (omega (arith, k .objectsIs)) x
-
-pub ground : {b w : List ℕ} {s : State} {own : Span} → Read b w s → Lies b w (inner b w) own → Ground b w (s .objects) (s .closed) own
-ground r l =
-    record {
-      tables = record { isSound = r .isSound; objectsIs = r .objectsIs; few = r .bounds .few; room = omega arith; within = omega arith };
-      closedIs = r .closedIs;
-      innerLies = l;
-    }
-
-module _ {b w : List ℕ} {o p : Object} {s t : Span} (x : Lies b w o s) (y : Lies b w p t) where
+module _ {b w : List ℕ} {o p : Object} {s t : Runs} (x : Held b w o s) (y : Held b w p t) where
   same-runs : sameObject o p ≡ (sameList eqb (part (s .from) (s .from + s .size) b) (part (t .from) (t .from + t .size) b)
       && sameList eqb (part (s .at) (s .at + s .words) w) (part (t .at) (t .at + t .words) w))
   same-runs =
@@ -165,14 +135,14 @@ module _ {b w : List ℕ} {closed i : ℕ} (k : Look b w closed i) where
 -- ---- closed object i against the innermost open one, of the same size and as many words
 
 -- the first j bytes and the first k words looked at
-pub record Pair (b w : List ℕ) (i : ℕ) (s t : Span) (j k : ℕ) : Type 0 where
+pub record Pair (b w : List ℕ) (i : ℕ) (s t : Runs) (j k : ℕ) : Type 0 where
   pub ownIn : s .from + s .size ≤ length b
   pub otherIn : t .from + s .size ≤ length b
   pub ownWordsIn : s .at + s .words ≤ length w
   pub otherWordsIn : t .at + s .words ≤ length w
   pub sameIs : sameObject (inner b w) (closedAt b w i) ≡ (alike b (s .from) (t .from) (s .size) j && alike w (s .at) (t .at) (s .words) k)
 
-pub pair-first : {b w : List ℕ} {i : ℕ} {s t : Span} → Lies b w (inner b w) s → Lies b w (closedAt b w i) t → t .size ≡ s .size → t .words ≡ s .words → Pair b w i s t 0 0
+pub pair-first : {b w : List ℕ} {i : ℕ} {s t : Runs} → Held b w (inner b w) s → Held b w (closedAt b w i) t → t .size ≡ s .size → t .words ≡ s .words → Pair b w i s t 0 0
 unfolding alike
 pair-first x y h m =
     record {
@@ -183,7 +153,7 @@ pair-first x y h m =
       sameIs = rw (h, m) at (same-runs x y);
     }
 
-module _ {b w : List ℕ} {i : ℕ} {s t : Span} {j k : ℕ} (x : Pair b w i s t j k) where
+module _ {b w : List ℕ} {i : ℕ} {s t : Runs} {j k : ℕ} (x : Pair b w i s t j k) where
   pub pair-byte : j < s .size → getD b (t .from + j) 0 ≡ getD b (s .from + j) 0 → Pair b w i s t (j + 1) k
   pair-byte h e =
       record {

@@ -1,55 +1,37 @@
 // The look for an equal closed object.
+use fields::Span;
+use fields::closed_span;
+use fields::open_span;
 use layout::state::State;
 use layout::words::LINK_WORDS;
-use layout::words::word;
 ghost use mathlib.Core.Path.{_≡_};
-ghost use Prim.Native.Nat.{_<_};
-ghost use Rattle.layout.specs.Words.{openDepth, closedCount};
-ghost use Rattle.layout.specs.Decode.{closedAt};
+ghost use Prim.Native.Nat.{_+_, _*_, _^_, _≤_, _<_};
+ghost use Rattle.layout.specs.Words.{openDepth};
 ghost use Rattle.layout.specs.Known.{Read};
-ghost use Rattle.steps.specs.Steps.{inner, twinIn};
-ghost use Rattle.search.specs.Span.{Lies, Tables, Ground};
+ghost use Rattle.steps.specs.Steps.{twinIn};
+ghost use Rattle.search.specs.Runs.{runsOf, Ground};
 
-// Where an object lies: its bytes in the byte store, and the words of its links in the record store.
-pub struct Span {
+// An object as runs of the two stores: its bytes, and the words of its links.
+pub struct Runs {
     pub from: usize,
     pub size: usize,
     pub at: usize,
     pub words: usize,
 }
 
-fn inner_span(store: &[u8], records: &[u32], s: State) -> Span
-    requires { ⌜ Read (now store) (now records) s × (0 < openDepth (now records)) ⌝ }
-    ensures { λ r. ⌜ Lies (now (store .entry)) (now (records .entry)) (inner (now (store .entry)) (now (records .entry))) r ⌝ }
+fn runs_of(objects: usize, s: Span) -> Runs
+    requires { ⌜ (s .from ≤ s .to) × (s .first ≤ s .last) × (135 + objects * 2 + s .last * 3 < 2 ^ 62) ⌝ }
+    ensures { λ r. ⌜ r ≡ runsOf objects s ⌝ }
 {
-    let from = word(records, 3 + (s.depth - 1));
-    let first = word(records, 68 + (s.depth - 1));
-    Span {
-        from,
-        size: s.top - from,
-        at: 135 + s.objects * 2 + first * LINK_WORDS,
-        words: (s.link_top - first) * LINK_WORDS,
+    Runs {
+        from: s.from,
+        size: s.to - s.from,
+        at: 135 + objects * 2 + s.first * LINK_WORDS,
+        words: (s.last - s.first) * LINK_WORDS,
     }
 }
 
-fn closed_span(store: &[u8], records: &[u32], objects: usize, i: usize) -> Span
-    requires { ⌜ Tables (now store) (now records) objects × (i < closedCount (now records)) ⌝ }
-    ensures { λ r. ⌜ Lies (now (store .entry)) (now (records .entry)) (closedAt (now (store .entry)) (now (records .entry)) i) r ⌝ }
-{
-    let begins = 134 + objects;
-    let from = word(records, 133 + i + 1);
-    let to = word(records, 133 + i);
-    let first = word(records, begins + i + 1);
-    let last = word(records, begins + i);
-    Span {
-        from,
-        size: to - from,
-        at: 135 + objects * 2 + first * LINK_WORDS,
-        words: (last - first) * LINK_WORDS,
-    }
-}
-
-fn seek(store: &[u8], records: &[u32], objects: usize, closed: usize, own: Span) -> usize
+fn seek(store: &[u8], records: &[u32], objects: usize, closed: usize, own: Runs) -> usize
     requires { ⌜ Ground (now store) (now records) objects closed own ⌝ }
     ensures { λ r. ⌜ r ≡ twinIn (now (store .entry)) (now (records .entry)) ⌝ }
 {
@@ -60,7 +42,7 @@ fn seek(store: &[u8], records: &[u32], objects: usize, closed: usize, own: Span)
         }
         let id = i;
         i += 1;
-        let o = closed_span(store, records, objects, id);
+        let o = runs_of(objects, closed_span(store, records, objects, id));
         if o.size != own.size {
             continue 'next;
         }
@@ -90,6 +72,6 @@ pub fn find(store: &[u8], records: &[u32], s: State) -> usize
     requires { ⌜ Read (now store) (now records) s × (0 < openDepth (now records)) ⌝ }
     ensures { λ r. ⌜ r ≡ twinIn (now (store .entry)) (now (records .entry)) ⌝ }
 {
-    let own = inner_span(store, records, s);
+    let own = runs_of(s.objects, open_span(store, records, s.depth - 1));
     seek(store, records, s.objects, s.closed, own)
 }

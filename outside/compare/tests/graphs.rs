@@ -163,18 +163,38 @@ fn many_graphs() {
     assert!(seen.by_distance >= 30 && seen.one_too_many >= 5);
 }
 
+const MIXED: &[u32] = &[2, 4, 4, 4];
+
 /// As many pieces and links as the limits allow.
 #[test]
-fn graphs_of_all_pieces_and_links() {
-    let mut numbers = seed::numbers("largest graphs");
+fn regular_graphs_of_all_pieces_and_links() {
+    largest(
+        "largest regular graphs",
+        &[
+            (Family::Chain, &[2], &[2]),
+            (Family::Lattice, MIXED, &[2, 9, 20]),
+        ],
+    );
+}
+
+#[test]
+fn wide_graphs_of_all_pieces_and_links() {
+    let seen = largest(
+        "largest wide graphs",
+        &[
+            (Family::Fan, &[4], &[2, 9]),
+            (Family::Shared, MIXED, &[2, 9, 20]),
+        ],
+    );
+    assert!(seen.told[11] >= 1);
+}
+
+type Kind = (Family, &'static [u32], &'static [usize]);
+
+fn largest(name: &str, kinds: &[Kind]) -> Seen {
+    let mut numbers = seed::numbers(name);
     let mut seen = Seen::default();
-    let mixed: &[u32] = &[2, 4, 4, 4];
-    for (family, widths, sizes) in [
-        (Family::Chain, &[2][..], &[2][..]),
-        (Family::Fan, &[4], &[2, 9]),
-        (Family::Shared, mixed, &[2, 9, 20]),
-        (Family::Lattice, mixed, &[2, 9, 20]),
-    ] {
+    for &(family, widths, sizes) in kinds {
         let make = Make {
             pieces: 4_096,
             ..make(4, widths, sizes)
@@ -184,7 +204,7 @@ fn graphs_of_all_pieces_and_links() {
     }
     report(&seen);
     assert_eq!(seen.most, (4_096, 16_384));
-    assert!(seen.told[11] >= 1);
+    seen
 }
 
 /// Links added to the root, or taken from it, until there are 16,384.

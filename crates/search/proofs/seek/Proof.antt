@@ -1,5 +1,5 @@
 -- Each id that is passed is not the answer; the object at it is compared with the innermost open one by the bytes and the words that are left.
-use Rattle.search.proofs.Looks.{Look, look-first, look-none, look-here, look-next, Pair, other-size, other-words, pair-first, pair-byte, pair-word, bytes-differ, words-differ, pair-same}
+use Rattle.search.proofs.Looks.{held, held-room, Look, look-first, look-none, look-here, look-next, Pair, other-size, other-words, pair-first, pair-byte, pair-word, bytes-differ, words-differ, pair-same}
 use Prim.Native.Nat.{_-_, _≤_}
 use native.Mathlib.Omega.{arith}
 use borrow.Author.Needs.{needs}
@@ -31,31 +31,34 @@ add-i : tie.Need-add-i Inv-loop μ-loop Inv-loop2 μ-loop2 Inv-next μ-next
 add-i c = search needs
 
 closed-span-requires : tie.Need-closed-span-requires Inv-loop μ-loop Inv-loop2 μ-loop2 Inv-next μ-next
-closed-span-requires c κs = (c .before .before .before .before .pre .tables, omega (arith, c .before .before .before .before .pre .closedIs))
+closed-span-requires c κs = (c .before .before .before .before .pre .tested .head, c .before .before .before .before .pre .tested .tables, c .before .before .before .before .pre .tested .objectsIs, omega (arith, c .before .before .before .before .pre .closedIs), omega (arith, c .before .before .before .before .pre .tested, c .before .before .before .before .pre .closedIs))
+
+runs-of-requires : tie.Need-runs-of-requires Inv-loop μ-loop Inv-loop2 μ-loop2 Inv-next μ-next
+runs-of-requires c κs = (c .closed-span .ensures .within .order, c .closed-span .ensures .within .linkOrder, omega (arith, c .before .before .before .before .before .good, held-room _ (c .before .before .before .before .before .pre .tested .objectsIs) (c .closed-span .ensures .within)))
 
 next-less : tie.Need-next-less Inv-loop μ-loop Inv-loop2 μ-loop2 Inv-next μ-next
 next-less c = search needs
 
 next-again : tie.Need-next-again Inv-loop μ-loop Inv-loop2 μ-loop2 Inv-next μ-next
-next-again c = look-next (c .before .before .before .before .before .next .inv) (c .before .before .before .before .if1 .left) (other-size (c .before .before .before .before .before .before .before .before .pre .innerLies) (c .before .before .before .closed-span .ensures) (c .if2 .taken))
+next-again c = look-next (c .before .before .before .before .before .before .next .inv) (c .before .before .before .before .before .if1 .left) (other-size (c .before .before .before .before .before .before .before .before .before .pre .innerHeld) (held _ (c .before .before .before .before .before .before .before .before .before .pre .tested .objectsIs) (c .before .before .before .runs-of .ensures) (c .before .before .before .before .closed-span .ensures)) (c .if2 .taken))
 
 next-less-2 : tie.Need-next-less-2 Inv-loop μ-loop Inv-loop2 μ-loop2 Inv-next μ-next
 next-less-2 c = search needs
 
 next-again-2 : tie.Need-next-again-2 Inv-loop μ-loop Inv-loop2 μ-loop2 Inv-next μ-next
-next-again-2 c = look-next (c .before .before .before .before .before .before .before .before .next .inv) (c .before .before .before .before .before .before .before .if1 .left) (other-words (c .before .before .before .before .before .before .before .before .before .before .before .pre .innerLies) (c .before .before .before .before .before .before .closed-span .ensures) (c .if3 .taken))
+next-again-2 c = look-next (c .before .before .before .before .before .before .before .before .before .next .inv) (c .before .before .before .before .before .before .before .before .if1 .left) (other-words (c .before .before .before .before .before .before .before .before .before .before .before .before .pre .innerHeld) (held _ (c .before .before .before .before .before .before .before .before .before .before .before .before .pre .tested .objectsIs) (c .before .before .before .before .before .before .runs-of .ensures) (c .before .before .before .before .before .before .before .closed-span .ensures)) (c .if3 .taken))
 
 loop-holds : tie.Need-loop-holds Inv-loop μ-loop Inv-loop2 μ-loop2 Inv-next μ-next
-loop-holds c = (search needs, pair-first (c .before .before .before .before .before .before .before .before .before .before .before .pre .innerLies) (c .before .before .before .before .before .before .closed-span .ensures) (c .before .before .before .if2 .left) (c .if3 .left))
+loop-holds c = (search needs, pair-first (c .before .before .before .before .before .before .before .before .before .before .before .before .pre .innerHeld) (held _ (c .before .before .before .before .before .before .before .before .before .before .before .before .pre .tested .objectsIs) (c .before .before .before .before .before .before .runs-of .ensures) (c .before .before .before .before .before .before .before .closed-span .ensures)) (c .before .before .before .if2 .left) (c .if3 .left))
 
 add-if5 : tie.Need-add-if5 Inv-loop μ-loop Inv-loop2 μ-loop2 Inv-next μ-next
-add-if5 c = search needs
+add-if5 c = omega (arith, c .before .before .before .before .before .before .before .before .before .before .before .before .before .before .before .before .good)
 
 shared-slice-read-if5 : tie.Need-shared-slice-read-if5 Inv-loop μ-loop Inv-loop2 μ-loop2 Inv-next μ-next
 shared-slice-read-if5 c = search needs
 
 add-if5-2 : tie.Need-add-if5-2 Inv-loop μ-loop Inv-loop2 μ-loop2 Inv-next μ-next
-add-if5-2 c = search needs
+add-if5-2 c = omega (arith, c .before .before .before .before .before .before .before .before .before .before .before .before .before .before .before .before .before .before .good)
 
 shared-slice-read-if5-2 : tie.Need-shared-slice-read-if5-2 Inv-loop μ-loop Inv-loop2 μ-loop2 Inv-next μ-next
 shared-slice-read-if5-2 c = search needs
@@ -64,7 +67,7 @@ next-less-3 : tie.Need-next-less-3 Inv-loop μ-loop Inv-loop2 μ-loop2 Inv-next 
 next-less-3 c = search needs
 
 next-again-3 : tie.Need-next-again-3 Inv-loop μ-loop Inv-loop2 μ-loop2 Inv-next μ-next
-next-again-3 c = look-next (c .before .before .before .before .before .before .before .before .before .before .before .before .before .before .before .before .next .inv) (c .before .before .before .before .before .before .before .before .before .before .before .before .before .before .before .if1 .left) (bytes-differ (c .before .before .before .before .before .before .before .loop .inv .1) (c .before .before .before .before .before .if4 .taken) (c .if5 .taken))
+next-again-3 c = look-next (c .before .before .before .before .before .before .before .before .before .before .before .before .before .before .before .before .before .next .inv) (c .before .before .before .before .before .before .before .before .before .before .before .before .before .before .before .before .if1 .left) (bytes-differ (c .before .before .before .before .before .before .before .loop .inv .1) (c .before .before .before .before .before .if4 .taken) (c .if5 .taken))
 
 add-j : tie.Need-add-j Inv-loop μ-loop Inv-loop2 μ-loop2 Inv-next μ-next
 add-j c = search needs
@@ -79,19 +82,19 @@ loop2-holds : tie.Need-loop2-holds Inv-loop μ-loop Inv-loop2 μ-loop2 Inv-next 
 loop2-holds c = (search needs, c .before .before .loop .inv .1)
 
 add-if7 : tie.Need-add-if7 Inv-loop μ-loop Inv-loop2 μ-loop2 Inv-next μ-next
-add-if7 c = omega (arith, c .before .before .before .before .before .before .before .before .before .before .before .before .before .before .before .before .before .before .good)
+add-if7 c = omega (arith, c .before .before .before .before .before .before .before .before .before .before .before .before .before .before .before .before .before .before .before .good)
 
 mul-if7 : tie.Need-mul-if7 Inv-loop μ-loop Inv-loop2 μ-loop2 Inv-next μ-next
-mul-if7 c = omega (arith, c .before .before .before .before .before .before .before .before .before .before .before .before .before .before .before .before .before .before .good)
+mul-if7 c = omega (arith, c .before .before .before .before .before .before .before .before .before .before .before .before .before .before .before .before .before .before .before .good)
 
 shared-slice-read-if7 : tie.Need-shared-slice-read-if7 Inv-loop μ-loop Inv-loop2 μ-loop2 Inv-next μ-next
 shared-slice-read-if7 c = search needs
 
 add-if7-2 : tie.Need-add-if7-2 Inv-loop μ-loop Inv-loop2 μ-loop2 Inv-next μ-next
-add-if7-2 c = omega (arith, c .before .before .before .before .before .before .before .before .before .before .before .before .before .before .before .before .before .before .before .before .good)
+add-if7-2 c = omega (arith, c .before .before .before .before .before .before .before .before .before .before .before .before .before .before .before .before .before .before .before .before .before .good)
 
 mul-if7-2 : tie.Need-mul-if7-2 Inv-loop μ-loop Inv-loop2 μ-loop2 Inv-next μ-next
-mul-if7-2 c = omega (arith, c .before .before .before .before .before .before .before .before .before .before .before .before .before .before .before .before .before .before .before .before .good)
+mul-if7-2 c = omega (arith, c .before .before .before .before .before .before .before .before .before .before .before .before .before .before .before .before .before .before .before .before .before .good)
 
 shared-slice-read-if7-2 : tie.Need-shared-slice-read-if7-2 Inv-loop μ-loop Inv-loop2 μ-loop2 Inv-next μ-next
 shared-slice-read-if7-2 c = search needs
@@ -100,7 +103,7 @@ next-less-4 : tie.Need-next-less-4 Inv-loop μ-loop Inv-loop2 μ-loop2 Inv-next 
 next-less-4 c = search needs
 
 next-again-4 : tie.Need-next-again-4 Inv-loop μ-loop Inv-loop2 μ-loop2 Inv-next μ-next
-next-again-4 c = look-next (c .before .before .before .before .before .before .before .before .before .before .before .before .before .before .before .before .before .before .before .next .inv) (c .before .before .before .before .before .before .before .before .before .before .before .before .before .before .before .before .before .before .if1 .left) (words-differ (c .before .before .before .before .before .before .before .loop2 .inv .1) (c .before .before .before .before .before .if6 .taken) (c .if7 .taken))
+next-again-4 c = look-next (c .before .before .before .before .before .before .before .before .before .before .before .before .before .before .before .before .before .before .before .before .next .inv) (c .before .before .before .before .before .before .before .before .before .before .before .before .before .before .before .before .before .before .before .if1 .left) (words-differ (c .before .before .before .before .before .before .before .loop2 .inv .1) (c .before .before .before .before .before .if6 .taken) (c .if7 .taken))
 
 add-k : tie.Need-add-k Inv-loop μ-loop Inv-loop2 μ-loop2 Inv-next μ-next
 add-k c = search needs
@@ -115,7 +118,7 @@ returns : tie.Need-returns Inv-loop μ-loop Inv-loop2 μ-loop2 Inv-next μ-next
 returns c = look-none (c .before .next .inv) (c .if1 .taken)
 
 returns-2 : tie.Need-returns-2 Inv-loop μ-loop Inv-loop2 μ-loop2 Inv-next μ-next
-returns-2 c = look-here (c .before .before .before .before .before .before .before .before .before .before .before .before .before .before .next .inv) (c .before .before .before .before .before .before .before .before .before .before .before .before .before .if1 .left) (pair-same (c .before .before .loop2 .inv .1) (c .before .before .before .if4 .left) (c .if6 .left))
+returns-2 c = look-here (c .before .before .before .before .before .before .before .before .before .before .before .before .before .before .before .next .inv) (c .before .before .before .before .before .before .before .before .before .before .before .before .before .before .if1 .left) (pair-same (c .before .before .loop2 .inv .1) (c .before .before .before .if4 .left) (c .if6 .left))
 
 pub seek-spec : {M : Type 1} → statement M
 seek-spec =
@@ -130,6 +133,7 @@ seek-spec =
     next-holds
     add-i
     closed-span-requires
+    runs-of-requires
     next-less
     next-again
     next-less-2

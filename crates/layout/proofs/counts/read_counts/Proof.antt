@@ -1,5 +1,4 @@
 -- The words that are read, under the facts of the header.
-use borrow.Author.Needs.{needs}
 use native.Mathlib.Omega.{arith}
 use Rattle.layout.proofs.Facts.{head-facts, head-long}
 use Rattle.layout.proofs.counts.read_counts.Statement.{statement}
