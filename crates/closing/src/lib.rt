@@ -2,7 +2,6 @@
 use answer::Closing;
 use answer::ObjectId;
 use answer::Refusal;
-use answer::Tally;
 use counting::tally_sound;
 use dropping::forget;
 use layout::state::State;
@@ -11,7 +10,6 @@ use layout::words::LINK_WORDS;
 use layout::words::store as store_word;
 use layout::words::word;
 use search::find;
-use soundness::is_sound;
 ghost use mathlib.Core.Path.{_≡_};
 ghost use mathlib.Core.Bool.{true};
 ghost use Prim.Native.Nat.{_-_, _≤_, _<_};
@@ -86,14 +84,4 @@ pub fn close_sound(store: &mut [u8], records: &mut [u32]) -> Closing
     seal_words(store, records, s, from, first);
     seal_bytes(store, from, top, s.low);
     Closing::Done(ObjectId(s.closed as u32), t.add())
-}
-
-// 12 where the session is not sound, 1 nothing open, 5 no bytes, 8 a new object past the limit.
-pub fn close(store: &mut [u8], records: &mut [u32]) -> Closing
-    ensures { λ r. ⌜ closing r (now (store .exit)) (now (records .exit)) ≡ closeStep (now (store .entry)) (now (records .entry)) ⌝ }
-{
-    if is_sound(store, records) {
-        return close_sound(store, records);
-    }
-    Closing::Refused(Refusal::Unsound, Tally::none())
 }

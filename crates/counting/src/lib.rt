@@ -1,13 +1,10 @@
 // The counts that every answer comes with.
-use answer::Answer;
-use answer::Refusal;
 use answer::Tally;
 use layout::state::read;
-use soundness::is_sound;
 ghost use mathlib.Core.Path.{_≡_};
 ghost use mathlib.Core.Bool.{true};
 ghost use Rattle.layout.specs.Sound.{sound};
-ghost use Rattle.steps.specs.Steps.{outcome, tallyIn, tallyStep};
+ghost use Rattle.steps.specs.Steps.{tallyIn};
 
 // What sound stores hold.
 pub fn tally_sound(store: &[u8], records: &[u32]) -> Tally
@@ -21,14 +18,4 @@ pub fn tally_sound(store: &[u8], records: &[u32]) -> Tally
         objects: s.closed,
         depth: s.depth,
     }
-}
-
-// 12 where the session is not sound.
-pub fn tally(store: &[u8], records: &[u32]) -> Answer
-    ensures { λ r. ⌜ outcome r (now (store .entry)) (now (records .entry)) ≡ tallyStep (now (store .entry)) (now (records .entry)) ⌝ }
-{
-    if is_sound(store, records) {
-        return Answer::Done(tally_sound(store, records));
-    }
-    Answer::Refused(Refusal::Unsound, Tally::none())
 }

@@ -16,18 +16,18 @@ use Rattle.steps.specs.Runs as calls
 use Rattle.steps.specs.Runs.{Stores}
 use Rattle.starting.proofs.start.Kinds as start-kinds
 use Rattle.starting.proofs.start.Reads as start-reads
-use Rattle.opening.proofs.open.Kinds as open-kinds
-use Rattle.opening.proofs.open.Reads as open-reads
-use Rattle.putting.proofs.put.Kinds as put-kinds
-use Rattle.putting.proofs.put.Reads as put-reads
-use Rattle.linking.proofs.link.Kinds as link-kinds
-use Rattle.linking.proofs.link.Reads as link-reads
-use Rattle.closing.proofs.close.Kinds as close-kinds
-use Rattle.closing.proofs.close.Reads as close-reads
-use Rattle.dropping.proofs.drop.Kinds as drop-kinds
-use Rattle.dropping.proofs.drop.Reads as drop-reads
-use Rattle.counting.proofs.tally.Kinds as tally-kinds
-use Rattle.counting.proofs.tally.Reads as tally-reads
+use Rattle.session.proofs.open.Kinds as open-kinds
+use Rattle.session.proofs.open.Reads as open-reads
+use Rattle.session.proofs.put.Kinds as put-kinds
+use Rattle.session.proofs.put.Reads as put-reads
+use Rattle.session.proofs.link.Kinds as link-kinds
+use Rattle.session.proofs.link.Reads as link-reads
+use Rattle.session.proofs.close.Kinds as close-kinds
+use Rattle.session.proofs.close.Reads as close-reads
+use Rattle.session.proofs.drop.Kinds as drop-kinds
+use Rattle.session.proofs.drop.Reads as drop-reads
+use Rattle.session.proofs.tally.Kinds as tally-kinds
+use Rattle.session.proofs.tally.Reads as tally-reads
 use Rattle.steps.specs.Pack.{PackOut}
 use Rattle.demand.specs.Demand.{LentCall, onStores, pack as packOn, LentLeft, lentStep, Made, run, AllClaim}
 use Rattle.packer.proofs.pack.Kinds as pack-kinds

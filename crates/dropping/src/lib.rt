@@ -1,12 +1,10 @@
 // The innermost open object forgotten.
 use answer::Answer;
 use answer::Refusal;
-use answer::Tally;
 use counting::tally_sound;
 use layout::state::read;
 use layout::words::store as store_word;
 use layout::words::word;
-use soundness::is_sound;
 ghost use mathlib.Core.Path.{_≡_};
 ghost use mathlib.Core.Bool.{true};
 ghost use Prim.Native.Nat.{_≤_, _<_};
@@ -40,14 +38,4 @@ pub fn drop_sound(store: &mut [u8], records: &mut [u32]) -> Answer
     let top = s.top;
     forget(store, records, from, top, d);
     Answer::Done(t.release(top - from, links))
-}
-
-// 12 where the session is not sound, 1 where nothing is open.
-pub fn drop(store: &mut [u8], records: &mut [u32]) -> Answer
-    ensures { λ r. ⌜ outcome r (now (store .exit)) (now (records .exit)) ≡ dropStep (now (store .entry)) (now (records .entry)) ⌝ }
-{
-    if is_sound(store, records) {
-        return drop_sound(store, records);
-    }
-    Answer::Refused(Refusal::Unsound, Tally::none())
 }

@@ -2,7 +2,6 @@
 use answer::Answer;
 use answer::ObjectId;
 use answer::Refusal;
-use answer::Tally;
 use counting::tally_sound;
 use fields::width_ok;
 use layout::state::State;
@@ -10,7 +9,6 @@ use layout::state::read;
 use layout::words::LINK_WORDS;
 use layout::words::store as store_word;
 use layout::words::word;
-use soundness::is_sound;
 ghost use mathlib.Core.Path.{_≡_};
 ghost use mathlib.Core.Bool.{true};
 ghost use Prim.Native.Nat.{_≤_, _<_};
@@ -60,14 +58,4 @@ pub fn link_sound(store: &[u8], records: &mut [u32], width: u32, id: ObjectId) -
     }
     append_link(store, records, s, k, child);
     Answer::Done(t.grow(k, 1))
-}
-
-// 12 where the session is not sound, 1 nothing open, 3 a width that is not 2 or 4, 4 no such closed object, 7 no room for a link, 6 none for its field.
-pub fn link(store: &[u8], records: &mut [u32], width: u32, id: ObjectId) -> Answer
-    ensures { λ r. ⌜ outcome r (now (store .entry)) (now (records .exit)) ≡ linkStep width (id .0) (now (store .entry)) (now (records .entry)) ⌝ }
-{
-    if is_sound(store, records) {
-        return link_sound(store, records, width, id);
-    }
-    Answer::Refused(Refusal::Unsound, Tally::none())
 }

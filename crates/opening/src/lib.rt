@@ -1,11 +1,9 @@
 // One more open object.
 use answer::Answer;
 use answer::Refusal;
-use answer::Tally;
 use counting::tally_sound;
 use layout::state::read;
 use layout::words::store as store_word;
-use soundness::is_sound;
 ghost use mathlib.Core.Path.{_≡_};
 ghost use mathlib.Core.Bool.{true};
 ghost use Rattle.layout.specs.Sound.{sound};
@@ -25,14 +23,4 @@ pub fn open_sound(store: &[u8], records: &mut [u32]) -> Answer
     store_word(records, 68 + d + 1, s.link_top);
     store_word(records, 2, d + 1);
     Answer::Done(t.open())
-}
-
-// 12 where the session is not sound, 2 where 64 objects are open.
-pub fn open(store: &[u8], records: &mut [u32]) -> Answer
-    ensures { λ r. ⌜ outcome r (now (store .entry)) (now (records .exit)) ≡ openStep (now (store .entry)) (now (records .entry)) ⌝ }
-{
-    if is_sound(store, records) {
-        return open_sound(store, records);
-    }
-    Answer::Refused(Refusal::Unsound, Tally::none())
 }

@@ -1,11 +1,9 @@
 // Bytes appended to the innermost open object.
 use answer::Answer;
 use answer::Refusal;
-use answer::Tally;
 use counting::tally_sound;
 use layout::state::read;
 use layout::words::store as store_word;
-use soundness::is_sound;
 ghost use mathlib.Core.Path.{_≡_};
 ghost use mathlib.Core.Bool.{true};
 ghost use Rattle.layout.specs.Sound.{sound};
@@ -28,14 +26,4 @@ pub fn put_sound(store: &mut [u8], records: &mut [u32], bytes: &[u8]) -> Answer
     memory::bytes::copy(store, top, bytes);
     store_word(records, 3 + d, top + bytes.len());
     Answer::Done(t.grow(bytes.len(), 0))
-}
-
-// 12 where the session is not sound, 1 where nothing is open, 6 where the bytes find no room: they are then not read.
-pub fn put(store: &mut [u8], records: &mut [u32], bytes: &[u8]) -> Answer
-    ensures { λ r. ⌜ outcome r (now (store .exit)) (now (records .exit)) ≡ putStep (now (bytes .entry)) (now (store .entry)) (now (records .entry)) ⌝ }
-{
-    if is_sound(store, records) {
-        return put_sound(store, records, bytes);
-    }
-    Answer::Refused(Refusal::Unsound, Tally::none())
 }

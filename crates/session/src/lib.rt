@@ -1,17 +1,79 @@
-// The calls on a session in two lent stores: start, open, put, link, close, drop, tally. Each stands in a crate of its own; this is their face.
+// The calls on a session in two lent stores: start, open, put, link, close, drop, tally.
 //
 // Every call ends and answers on any memory, and none asks anything of its caller. A refused call leaves both stores as they were.
-// The functions `.._sound` do the work on stores that are known to be sound; they are for proved callers.
-pub use closing::close;
+// Each is the soundness test and then the work on stores known to be sound: the functions `.._sound`, which are for proved callers too.
+use answer::Answer;
+use answer::Closing;
+use answer::ObjectId;
+use answer::Refusal;
+use answer::Tally;
+use soundness::is_sound;
+ghost use mathlib.Core.Path.{_≡_};
+ghost use Rattle.steps.specs.Steps.{outcome, closing, openStep, putStep, linkStep, closeStep, dropStep, tallyStep};
 pub use closing::close_sound;
-pub use counting::tally;
 pub use counting::tally_sound;
-pub use dropping::drop;
 pub use dropping::drop_sound;
-pub use linking::link;
 pub use linking::link_sound;
-pub use opening::open;
 pub use opening::open_sound;
-pub use putting::put;
 pub use putting::put_sound;
 pub use starting::start;
+
+// 12 where the session is not sound, 2 where 64 objects are open.
+pub fn open(store: &[u8], records: &mut [u32]) -> Answer
+    ensures { λ r. ⌜ outcome r (now (store .entry)) (now (records .exit)) ≡ openStep (now (store .entry)) (now (records .entry)) ⌝ }
+{
+    if is_sound(store, records) {
+        return open_sound(store, records);
+    }
+    Answer::Refused(Refusal::Unsound, Tally::none())
+}
+
+// 12 where the session is not sound, 1 where nothing is open, 6 where the bytes find no room: they are then not read.
+pub fn put(store: &mut [u8], records: &mut [u32], bytes: &[u8]) -> Answer
+    ensures { λ r. ⌜ outcome r (now (store .exit)) (now (records .exit)) ≡ putStep (now (bytes .entry)) (now (store .entry)) (now (records .entry)) ⌝ }
+{
+    if is_sound(store, records) {
+        return put_sound(store, records, bytes);
+    }
+    Answer::Refused(Refusal::Unsound, Tally::none())
+}
+
+// 12 where the session is not sound, 1 nothing open, 3 a width that is not 2 or 4, 4 no such closed object, 7 no room for a link, 6 none for its field.
+pub fn link(store: &[u8], records: &mut [u32], width: u32, id: ObjectId) -> Answer
+    ensures { λ r. ⌜ outcome r (now (store .entry)) (now (records .exit)) ≡ linkStep width (id .0) (now (store .entry)) (now (records .entry)) ⌝ }
+{
+    if is_sound(store, records) {
+        return link_sound(store, records, width, id);
+    }
+    Answer::Refused(Refusal::Unsound, Tally::none())
+}
+
+// 12 where the session is not sound, 1 nothing open, 5 no bytes, 8 a new object past the limit.
+pub fn close(store: &mut [u8], records: &mut [u32]) -> Closing
+    ensures { λ r. ⌜ closing r (now (store .exit)) (now (records .exit)) ≡ closeStep (now (store .entry)) (now (records .entry)) ⌝ }
+{
+    if is_sound(store, records) {
+        return close_sound(store, records);
+    }
+    Closing::Refused(Refusal::Unsound, Tally::none())
+}
+
+// 12 where the session is not sound, 1 where nothing is open.
+pub fn drop(store: &mut [u8], records: &mut [u32]) -> Answer
+    ensures { λ r. ⌜ outcome r (now (store .exit)) (now (records .exit)) ≡ dropStep (now (store .entry)) (now (records .entry)) ⌝ }
+{
+    if is_sound(store, records) {
+        return drop_sound(store, records);
+    }
+    Answer::Refused(Refusal::Unsound, Tally::none())
+}
+
+// 12 where the session is not sound.
+pub fn tally(store: &[u8], records: &[u32]) -> Answer
+    ensures { λ r. ⌜ outcome r (now (store .entry)) (now (records .entry)) ≡ tallyStep (now (store .entry)) (now (records .entry)) ⌝ }
+{
+    if is_sound(store, records) {
+        return Answer::Done(tally_sound(store, records));
+    }
+    Answer::Refused(Refusal::Unsound, Tally::none())
+}

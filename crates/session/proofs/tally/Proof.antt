@@ -3,8 +3,8 @@ use borrow.Author.Needs.{needs}
 use mathlib.Core.Path.{sym, _∙_}
 use Rattle.steps.specs.Steps.{tallyStep}
 use Rattle.steps.proofs.Works.{tally-done, unsound-told}
-use Rattle.counting.proofs.tally.Statement.{statement}
-use Rattle.counting.proofs.tally.Tie as tie
+use Rattle.session.proofs.tally.Statement.{statement}
+use Rattle.session.proofs.tally.Tie as tie
 
 is-sound-requires : tie.Need-is-sound-requires
 is-sound-requires c κs = search needs

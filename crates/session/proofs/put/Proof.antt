@@ -3,8 +3,8 @@ use borrow.Author.Needs.{needs}
 use mathlib.Core.Path.{refl, sym, _∙_}
 use Rattle.steps.specs.Steps.{putStep}
 use Rattle.steps.proofs.Works.{unsound-told}
-use Rattle.putting.proofs.put.Statement.{statement}
-use Rattle.putting.proofs.put.Tie as tie
+use Rattle.session.proofs.put.Statement.{statement}
+use Rattle.session.proofs.put.Tie as tie
 
 is-sound-requires : tie.Need-is-sound-requires
 is-sound-requires c κs = search needs

@@ -1,15 +1,16 @@
--- Sound stores go on to `close_sound`; others are refused.
-use Rattle.closing.proofs.Closes.{close-unsound}
-use Rattle.closing.proofs.close.Statement.{statement}
-use Rattle.closing.proofs.close.Tie as tie
+-- By whether the stores are sound.
 use borrow.Author.Needs.{needs}
 use mathlib.Core.Path.{refl, sym, _∙_}
+use Rattle.steps.specs.Steps.{dropStep}
+use Rattle.steps.proofs.Works.{unsound-told}
+use Rattle.session.proofs.drop.Statement.{statement}
+use Rattle.session.proofs.drop.Tie as tie
 
 is-sound-requires : tie.Need-is-sound-requires
 is-sound-requires c κs = search needs
 
-close-sound-requires : tie.Need-close-sound-requires
-close-sound-requires c κs = sym (c .before .before .before .is-sound .ensures) ∙ c .before .before .if1 .taken
+drop-sound-requires : tie.Need-drop-sound-requires
+drop-sound-requires c κs = sym (c .before .before .before .is-sound .ensures) ∙ c .before .before .if1 .taken
 
 same-length : tie.Need-same-length
 same-length c = search needs
@@ -30,14 +31,15 @@ same-length-4 : tie.Need-same-length-4
 same-length-4 c = refl
 
 returns-2 : tie.Need-returns-2
-returns-2 c = close-unsound (c .none .ensures) (sym (c .before .before .is-sound .ensures) ∙ c .before .if1 .left)
+unfolding dropStep
+returns-2 c = unsound-told _ _ (c .none .ensures) (sym (c .before .before .is-sound .ensures) ∙ c .before .if1 .left)
 
-pub close-spec : {M : Type 1} → statement M
-close-spec =
+pub drop-spec : {M : Type 1} → statement M
+drop-spec =
     tie.close
     (tie.spec
     is-sound-requires
-    close-sound-requires
+    drop-sound-requires
     same-length
     same-length-2
     returns
