@@ -1,24 +1,24 @@
 -- Each way through close's code, as its definition has it.
 use mathlib.Core.Path.{_≡_}
-use Prim.Native.Nat.{ℕ, _+_, _-_, _*_, _≤_, _<_}
+use Prim.Native.Nat.{ℕ, _+_, _-_, _≤_, _<_}
 use mathlib.Core.List.{List}
 use mathlib.Core.Bool.{false}
 use native.Mathlib.Omega.{arith}
 use borrow.Author.Tests.{eq-eqb, ne-eqb, le-leb, lt-leb, lt-ltb, le-ltb}
-use lib.ListN.{getD, set, replicate}
+use lib.ListN.{length, getD}
 use lib.Dec.{eqb}
-use Rattle.lists.specs.Lists.{part, over}
 use Rattle.answer.specs.Number.{noTally}
 use Rattle.answer.specs.Tally.{added, released}
 use Rattle.answer.specs.declared.tally.Tally.{Tally}
 use Rattle.answer.specs.declared.Refusal.the-variants as Refusal
 use Rattle.answer.specs.declared.Closing.the-variants as Closing
 use Rattle.model.specs.Judge.{verdict}
-use Rattle.layout.specs.Words.{objectLimit, closedCount, openDepth, endsAt, linkEndsAt, linkWords, top}
+use Rattle.layout.specs.Words.{objectLimit, closedCount, openDepth, endsAt, linkEndsAt, top}
 use Rattle.layout.specs.Sound.{sound}
 use Rattle.layout.specs.Known.{Read}
 use Rattle.layout.specs.declared.state.State.{State}
-use Rattle.steps.specs.Steps.{tallyIn, under, linkUnder, droppedBytes, droppedWords, closing, twinIn, sealedWords, closeStep}
+use Rattle.steps.specs.Steps.{tallyBy, under, linkUnder, droppedBytes, droppedWords, closing, twinIn, sealedBytes, sealedWords, closeStep}
+use Rattle.sealing.specs.Sealing.{Sealing}
 use Rattle.steps.proofs.Held.{Held, held, Below, inner-from, inner-first}
 
 pub close-unsound : {b w : List ℕ} {t : Tally} → t ≡ noTally → sound b w ≡ false → closing (Closing.Refused Refusal.Unsound t) b w ≡ closeStep b w
@@ -45,10 +45,14 @@ pub record Ready (b w : List ℕ) (s : State) (t : Tally) (from first : ℕ) : T
   pub filled : s .top ≡ from → ⊥
   pub links : Below first (linkUnder w) (s .«link_top»)
 
-pub ready : {b w : List ℕ} {s : State} {t : Tally} {from first : ℕ} → Read b w s → t ≡ tallyIn b w → (s .depth ≡ 0 → ⊥)
+pub ready : {b w : List ℕ} {s : State} {t : Tally} {from first : ℕ} → Read b w s → t ≡ tallyBy (length b) s → (s .depth ≡ 0 → ⊥)
     → from ≡ getD w (endsAt + (s .depth - 1)) 0 → (s .top ≡ from → ⊥) → first ≡ getD w (linkEndsAt + (s .depth - 1)) 0 → Ready b w s t from first
 ready {s = s} r e k p f q =
     let some : 0 < s .depth = omega arith in record { held = held r e; some = some; bytes = inner-from r some p; filled = f; links = inner-first r some q }
+
+pub sealing : {b w : List ℕ} {s : State} {t : Tally} {from first : ℕ} → Ready b w s t from first → s .closed < s .objects → Sealing b w s from first
+sealing k room =
+    record { read = k .held .counts; some = k .some; room = room; fromIs = k .bytes .is; order = k .bytes .order; firstIs = k .links .is; linkOrder = k .links .order }
 
 module _ {b w : List ℕ} {s : State} {t : Tally} {from first : ℕ} (k : Ready b w s t from first) {i : ℕ} (twin : i ≡ twinIn b w) where
   notEmpty : eqb (top w - under w) 0 ≡ false
@@ -71,24 +75,10 @@ module _ {b w : List ℕ} {s : State} {t : Tally} {from first : ℕ} (k : Ready 
         rw (h .counts .isSound, isOpen h (k .some), notEmpty, le-leb (closedCount w) (twinIn b w) (omega arith), le-leb (objectLimit w) (closedCount w) (omega arith))
         (rw (h .tallyIs))
 
-    pub close-new : s .closed < s .objects
-        → let low = s .low - (s .top - from) in
-        closing (Closing.Done (record { 0 = s .closed }) (added t)) (over from (replicate (low - from) 0) (over low (part from (s .top) b) b)) (sealedWords w) ≡ closeStep b w
+    pub close-new : s .closed < s .objects → closing (Closing.Done (record { 0 = s .closed }) (added t)) (sealedBytes b w) (sealedWords w) ≡ closeStep b w
     unfolding closeStep verdict
     close-new m =
         let h = k .held in
         let r = h .counts in
         rw (r .isSound, isOpen h (k .some), notEmpty, le-leb (closedCount w) (twinIn b w) (omega arith), lt-leb (objectLimit w) (closedCount w) (omega arith), le-ltb (twinIn b w) (closedCount w) (omega arith))
-        (rw (k .bytes .is, r .topIs, r .lowIs, r .closedIs, h .tallyIs))
-
--- the words as they are stored
-pub seal-done : {b w : List ℕ} {s : State} {from first : ℕ} → Read b w s → from ≡ under w → first ≡ linkUnder w → first ≤ s .«link_top»
-    → let base = 135 + s .objects * 2 in
-    let low = s .low - (s .top - from) in
-    let links = s .«link_top» - first in
-    let linkLow = s .«link_low» - links in
-    set (set (set (set (over (base + linkLow * linkWords) (part (base + first * linkWords) (base + first * linkWords + links * linkWords) w) w) (133 + s .closed + 1) low) (134 + s .objects + s .closed + 1) linkLow) 1 (s .closed + 1)) 2 (s .depth - 1)
-    ≡ sealedWords w
-seal-done {w = w} {s = s} {first = first} r e f h =
-    let n : 135 + s .objects * 2 + first * linkWords + (s .«link_top» - first) * linkWords ≡ 135 + s .objects * 2 + s .«link_top» * linkWords = omega arith in
-    rw (n, e, f, r .objectsIs, r .linkTopIs, r .linkLowIs, r .topIs, r .lowIs, r .closedIs, r .depthIs)
+        (rw (r .closedIs, h .tallyIs))

@@ -2,7 +2,7 @@
 use answer::Answer;
 use answer::ObjectId;
 use answer::Refusal;
-use counting::tally_sound;
+use counting::tally_of;
 use fields::width_ok;
 use layout::state::State;
 use layout::state::read;
@@ -37,8 +37,8 @@ pub fn link_sound(store: &[u8], records: &mut [u32], width: u32, id: ObjectId) -
     requires { ⌜ sound (now store) (now records) ≡ true ⌝ }
     ensures { λ r. ⌜ outcome r (now (store .entry)) (now (records .exit)) ≡ linkStep width (id .0) (now (store .entry)) (now (records .entry)) ⌝ }
 {
-    let t = tally_sound(store, records);
     let s = read(store, records);
+    let t = tally_of(store.len(), s);
     let k = width as usize;
     let child = id.0 as usize;
     if t.depth == 0 {

@@ -1,7 +1,7 @@
 // One more open object.
 use answer::Answer;
 use answer::Refusal;
-use counting::tally_sound;
+use counting::tally_of;
 use layout::state::read;
 use layout::words::store as store_word;
 ghost use mathlib.Core.Path.{_≡_};
@@ -13,8 +13,8 @@ pub fn open_sound(store: &[u8], records: &mut [u32]) -> Answer
     requires { ⌜ sound (now store) (now records) ≡ true ⌝ }
     ensures { λ r. ⌜ outcome r (now (store .entry)) (now (records .exit)) ≡ openStep (now (store .entry)) (now (records .entry)) ⌝ }
 {
-    let t = tally_sound(store, records);
     let s = read(store, records);
+    let t = tally_of(store.len(), s);
     let d = s.depth;
     if 64 <= d {
         return Answer::Refused(Refusal::DepthFull, t);

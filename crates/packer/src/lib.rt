@@ -7,7 +7,7 @@ use answer::Packing;
 use answer::Refusal;
 use answer::Tally;
 use copying::copy_graph;
-use counting::tally_sound;
+use counting::tally_of;
 use fitting::Look;
 use laying::lay_first_fit;
 use layout::state::State;
@@ -60,8 +60,8 @@ pub fn pack_sound(
     requires { ⌜ sound (now store) (now records) ≡ true ⌝ }
     ensures { λ r. ⌜ packed r (now (out .exit)) (now (work .exit)) ≡ packStep (id .0) (now (store .entry)) (now (records .entry)) (now (out .entry)) (now (work .entry)) ⌝ }
 {
-    let t = tally_sound(store, records);
     let s = read(store, records);
+    let t = tally_of(store.len(), s);
     let root = id.0 as usize;
     if work.len() < work_need(s.objects as u32, s.links as u32) {
         return Packing::Refused(Refusal::OutOfRange, Tally::none());

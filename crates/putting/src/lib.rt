@@ -1,7 +1,7 @@
 // Bytes appended to the innermost open object.
 use answer::Answer;
 use answer::Refusal;
-use counting::tally_sound;
+use counting::tally_of;
 use layout::state::read;
 use layout::words::store as store_word;
 ghost use mathlib.Core.Path.{_≡_};
@@ -13,8 +13,8 @@ pub fn put_sound(store: &mut [u8], records: &mut [u32], bytes: &[u8]) -> Answer
     requires { ⌜ sound (now store) (now records) ≡ true ⌝ }
     ensures { λ r. ⌜ outcome r (now (store .exit)) (now (records .exit)) ≡ putStep (now (bytes .entry)) (now (store .entry)) (now (records .entry)) ⌝ }
 {
-    let t = tally_sound(store, records);
     let s = read(store, records);
+    let t = tally_of(store.len(), s);
     let d = s.depth;
     if d == 0 {
         return Answer::Refused(Refusal::NothingOpen, t);

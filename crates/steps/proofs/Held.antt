@@ -10,7 +10,7 @@ use Rattle.layout.specs.Words.{openDepth, endsAt, linkEndsAt}
 use Rattle.layout.specs.Known.{Read}
 use Rattle.layout.proofs.Entries.{Rising}
 use Rattle.layout.proofs.Facts.{sound-tables, sound-known}
-use Rattle.steps.specs.Steps.{tallyIn, under, linkUnder}
+use Rattle.steps.specs.Steps.{tallyIn, tallyBy, under, linkUnder}
 
 pub record Held (b w : List ℕ) (s : State) (t : Tally) : Type 0 where
   pub counts : Read b w s
@@ -20,16 +20,11 @@ pub record Held (b w : List ℕ) (s : State) (t : Tally) : Type 0 where
   pub objectsIs : t .objects ≡ s .closed
   pub depthIs : t .depth ≡ s .depth
 
-pub held : {b w : List ℕ} {s : State} {t : Tally} → Read b w s → t ≡ tallyIn b w → Held b w s t
-held r e =
-    record {
-      counts = r;
-      tallyIs = e;
-      bytesIs = rw (e, r .topIs, r .lowIs);
-      linksIs = rw (e, r .linkTopIs, r .linksIs, r .linkLowIs);
-      objectsIs = rw (e, r .closedIs);
-      depthIs = rw (e, r .depthIs);
-    }
+pub tally-is : {b w : List ℕ} {s : State} {t : Tally} → Read b w s → t ≡ tallyBy (length b) s → t ≡ tallyIn b w
+tally-is r e = rw (← r .topIs, ← r .lowIs, ← r .linkTopIs, ← r .linksIs, ← r .linkLowIs, ← r .closedIs, ← r .depthIs) e
+
+pub held : {b w : List ℕ} {s : State} {t : Tally} → Read b w s → t ≡ tallyBy (length b) s → Held b w s t
+held r e = record { counts = r; tallyIs = tally-is r e; bytesIs = rw e; linksIs = rw e; objectsIs = rw e; depthIs = rw e }
 
 -- ---- the innermost open object: a number read below the last entry of a table of ends
 

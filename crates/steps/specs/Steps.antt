@@ -13,6 +13,7 @@ use Rattle.answer.specs.declared.Closing.{Closing}
 use Rattle.answer.specs.declared.Closing.the-variants as Closing
 use Rattle.model.specs.Object.{Object, sameObject}
 use Rattle.model.specs.Judge.{Limits, Verdict, accepted, refused, judgeStart, judgeOpen, judgePut, judgeLink, judgeClose, judgeDrop, judgeTally}
+use Rattle.layout.specs.declared.state.State.{State}
 use Rattle.layout.specs.Words.{closedCount, openDepth, endsAt, linkEndsAt, beginsAt, linkBeginsAt, linksAt, linkWords, need, limitsIn, linkLimit, top, linkTop, low, linkLow, wordsOf}
 use Rattle.layout.specs.Decode.{openAt, closedTo}
 use Rattle.layout.specs.Sound.{sound}
@@ -34,6 +35,16 @@ tallyIn b w =
       links = linkTop w + (linkLimit w - linkLow w);
       objects = closedCount w;
       depth = openDepth w;
+    }
+
+-- the same by the counts and edges read of them, for a byte store of length n
+abbrev pub tallyBy : ℕ → State → Tally
+tallyBy n s =
+    record {
+      bytes = s .top + (n - s .low);
+      links = s .«link_top» + (s .links - s .«link_low»);
+      objects = s .closed;
+      depth = s .depth;
     }
 
 -- by a verdict: a refused call leaves both stores as they were

@@ -21,8 +21,9 @@ same-length-2 c = search needs
 
 returns : tie.Need-returns
 returns c =
-    let p = c .before .before .before .before .before .before .before .before .before .before .pre in
-    rw (c .before .before .store2 .ensures, c .before .before .before .before .before .before .clear .ensures, ← p .4, ← p .3, ← p .1) (refl, refl)
+    let k = c .before .before .before .before .before .before .before in
+    let p = k .before .before .before .before .pre in
+    rw (c .before .before .store2 .ensures, k .clear .ensures, ← p .2, ← p .0 .topIs, ← p .0 .depthIs) (refl, refl)
 
 pub forget-spec : {M : Type 1} → statement M
 forget-spec =

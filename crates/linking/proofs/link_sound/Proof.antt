@@ -7,11 +7,13 @@ use Rattle.steps.proofs.Works.{link-none, link-width, link-child, link-full, li
 use Rattle.linking.proofs.link_sound.Statement.{statement}
 use Rattle.linking.proofs.link_sound.Tie as tie
 
-tally-sound-requires : tie.Need-tally-sound-requires
-tally-sound-requires c κs = search needs
-
 read-requires : tie.Need-read-requires
 read-requires c κs = search needs
+
+tally-of-requires : tie.Need-tally-of-requires
+tally-of-requires c κs =
+    let b = c .read .ensures .bounds in
+    (b .apart, b .inside, b .most, b .linkApart, b .linkInside, b .fewLinks)
 
 cast-child : tie.Need-cast-child
 cast-child c = search needs
@@ -22,7 +24,7 @@ same-length c = refl
 returns : tie.Need-returns
 returns c =
     let k = c .before .before .before in
-    link-none (held (k .read .ensures) (k .before .before .tally-sound .ensures)) _ _ (c .if1 .taken)
+    link-none (held (k .before .read .ensures) (k .tally-of .ensures)) _ _ (c .if1 .taken)
 
 width-ok-requires : tie.Need-width-ok-requires
 width-ok-requires c κs = search needs
@@ -33,7 +35,7 @@ same-length-2 c = refl
 returns-2 : tie.Need-returns-2
 returns-2 c =
     let k = c .before .before .before .before .before in
-    let h = held (k .read .ensures) (k .before .before .tally-sound .ensures) in
+    let h = held (k .before .read .ensures) (k .tally-of .ensures) in
     link-width h _ _ (omega arith) (rw (c .before .width-ok .ensures) at (c .if2 .taken))
 
 same-length-3 : tie.Need-same-length-3
@@ -43,7 +45,7 @@ returns-3 : tie.Need-returns-3
 returns-3 c =
     let i2 = c .before .before in
     let k = i2 .before .before .before .before .before in
-    let h = held (k .read .ensures) (k .before .before .tally-sound .ensures) in
+    let h = held (k .before .read .ensures) (k .tally-of .ensures) in
     link-child h _ _ (omega arith) (rw (i2 .before .width-ok .ensures) at (i2 .if2 .left)) (c .if3 .taken)
 
 same-length-4 : tie.Need-same-length-4
@@ -54,13 +56,13 @@ returns-4 c =
     let i3 = c .before .before .before in
     let i2 = i3 .before .before in
     let k = i2 .before .before .before .before .before in
-    let h = held (k .read .ensures) (k .before .before .tally-sound .ensures) in
+    let h = held (k .before .read .ensures) (k .tally-of .ensures) in
     link-full h _ _ (omega arith) (rw (i2 .before .width-ok .ensures) at (i2 .if2 .left)) (i3 .if3 .left) (c .if4 .taken)
 
 sub-if5 : tie.Need-sub-if5
 sub-if5 c =
     let k = c .before .before .before .before .before .before .before .before .before .before .before in
-    let h = held (k .read .ensures) (k .before .before .tally-sound .ensures) in
+    let h = held (k .before .read .ensures) (k .tally-of .ensures) in
     omega arith
 
 same-length-5 : tie.Need-same-length-5
@@ -72,15 +74,15 @@ returns-5 c =
     let i3 = i4 .before .before .before in
     let i2 = i3 .before .before in
     let k = i2 .before .before .before .before .before in
-    let h = held (k .read .ensures) (k .before .before .tally-sound .ensures) in
+    let h = held (k .before .read .ensures) (k .tally-of .ensures) in
     link-room h _ _ (omega arith) (rw (i2 .before .width-ok .ensures) at (i2 .if2 .left)) (i3 .if3 .left) (i4 .if4 .left) (omega arith)
 
 append-link-requires : tie.Need-append-link-requires
 append-link-requires c κs =
     let i2 = c .before .before .before .before .before .before .before .before in
     let k = i2 .before .before .before .before .before in
-    let h = held (k .read .ensures) (k .before .before .tally-sound .ensures) in
-    (k .read .ensures, omega arith, omega arith, width-most _ (rw (i2 .before .width-ok .ensures) at (i2 .if2 .left)), omega arith)
+    let h = held (k .before .read .ensures) (k .tally-of .ensures) in
+    (k .before .read .ensures, omega arith, omega arith, width-most _ (rw (i2 .before .width-ok .ensures) at (i2 .if2 .left)), omega arith)
 
 grow-requires : tie.Need-grow-requires
 grow-requires c κs = search needs
@@ -95,7 +97,7 @@ returns-6 c =
     let i3 = i4 .before .before .before in
     let i2 = i3 .before .before in
     let k = i2 .before .before .before .before .before in
-    let h = held (k .read .ensures) (k .before .before .tally-sound .ensures) in
+    let h = held (k .before .read .ensures) (k .tally-of .ensures) in
     rw (c .grow .ensures, c .before .before .before .append-link .ensures)
     (link-done h _ _ (omega arith) (rw (i2 .before .width-ok .ensures) at (i2 .if2 .left)) (i3 .if3 .left) (i4 .if4 .left) (omega (arith, i5 .if5 .left)))
 
@@ -103,8 +105,8 @@ pub link-sound-spec : {M : Type 1} → statement M
 link-sound-spec =
     tie.close
     (tie.spec
-    tally-sound-requires
     read-requires
+    tally-of-requires
     cast-child
     same-length
     returns

@@ -7,11 +7,13 @@ use Rattle.steps.proofs.Works.{open-full, open-done}
 use Rattle.opening.proofs.open_sound.Statement.{statement}
 use Rattle.opening.proofs.open_sound.Tie as tie
 
-tally-sound-requires : tie.Need-tally-sound-requires
-tally-sound-requires c κs = search needs
-
 read-requires : tie.Need-read-requires
 read-requires c κs = search needs
+
+tally-of-requires : tie.Need-tally-of-requires
+tally-of-requires c κs =
+    let b = c .read .ensures .bounds in
+    (b .apart, b .inside, b .most, b .linkApart, b .linkInside, b .fewLinks)
 
 same-length : tie.Need-same-length
 same-length c = refl
@@ -19,7 +21,7 @@ same-length c = refl
 returns : tie.Need-returns
 returns c =
     let k = c .before in
-    open-full (held (k .read .ensures) (k .before .before .tally-sound .ensures)) (c .if1 .taken)
+    open-full (held (k .before .read .ensures) (k .tally-of .ensures)) (c .if1 .taken)
 
 add-store : tie.Need-add-store
 add-store c = search needs
@@ -48,7 +50,7 @@ store-requires-3 c κs = search needs
 open-requires : tie.Need-open-requires
 open-requires c κs =
     let k = c .before .before .before .before .before .before .before .before .before .before .before .before .before in
-    let h = held (k .read .ensures) (k .before .before .tally-sound .ensures) in
+    let h = held (k .before .read .ensures) (k .tally-of .ensures) in
     omega (arith, c .before .before .before .before .before .before .before .before .before .before .before .before .if1 .left)
 
 same-length-2 : tie.Need-same-length-2
@@ -61,14 +63,14 @@ returns-2 c =
     let s1 = s2 .before .before .before .before in
     let i1 = s1 .before .before in
     let k = i1 .before in
-    rw (c .«open» .ensures, s3 .store3 .ensures, s2 .store2 .ensures, s1 .store .ensures) (open-done (held (k .read .ensures) (k .before .before .tally-sound .ensures)) (i1 .if1 .left))
+    rw (c .«open» .ensures, s3 .store3 .ensures, s2 .store2 .ensures, s1 .store .ensures) (open-done (held (k .before .read .ensures) (k .tally-of .ensures)) (i1 .if1 .left))
 
 pub open-sound-spec : {M : Type 1} → statement M
 open-sound-spec =
     tie.close
     (tie.spec
-    tally-sound-requires
     read-requires
+    tally-of-requires
     same-length
     returns
     add-store

@@ -7,11 +7,13 @@ use Rattle.packer.proofs.Works.{packable, pack-done}
 use Rattle.packer.proofs.pack_sound.Statement.{statement}
 use Rattle.packer.proofs.pack_sound.Tie as tie
 
-tally-sound-requires : tie.Need-tally-sound-requires
-tally-sound-requires c κs = search needs
-
 read-requires : tie.Need-read-requires
 read-requires c κs = search needs
+
+tally-of-requires : tie.Need-tally-of-requires
+tally-of-requires c κs =
+    let b = c .read .ensures .bounds in
+    (b .apart, b .inside, b .most, b .linkApart, b .linkInside, b .fewLinks)
 
 cast-root : tie.Need-cast-root
 cast-root c = search needs
@@ -29,16 +31,16 @@ none-requires : tie.Need-none-requires
 none-requires c κs = search needs
 
 returns : tie.Need-returns
-returns c = pack-little (held (c .before .before .before .before .before .before .read .ensures) (c .before .before .before .before .before .before .before .tally-sound .ensures)) _ _ _ (c .none .ensures) (omega arith)
+returns c = pack-little (held (c .before .before .before .before .before .before .before .read .ensures) (c .before .before .before .before .before .before .tally-of .ensures)) _ _ _ (c .none .ensures) (omega arith)
 
 returns-2 : tie.Need-returns-2
-returns-2 c = pack-open (held (c .before .before .before .before .before .before .before .read .ensures) (c .before .before .before .before .before .before .before .before .tally-sound .ensures)) _ _ _ (omega arith) (omega arith)
+returns-2 c = pack-open (held (c .before .before .before .before .before .before .before .before .read .ensures) (c .before .before .before .before .before .before .before .tally-of .ensures)) _ _ _ (omega arith) (omega arith)
 
 returns-3 : tie.Need-returns-3
-returns-3 c = pack-unknown (held (c .before .before .before .before .before .before .before .before .before .read .ensures) (c .before .before .before .before .before .before .before .before .before .before .tally-sound .ensures)) _ _ _ (omega arith) (omega arith) (omega arith)
+returns-3 c = pack-unknown (held (c .before .before .before .before .before .before .before .before .before .before .read .ensures) (c .before .before .before .before .before .before .before .before .before .tally-of .ensures)) _ _ _ (omega arith) (omega arith) (omega arith)
 
 pack-graph-requires : tie.Need-pack-graph-requires
-pack-graph-requires c κs = packable (held (c .before .before .before .before .before .before .before .before .before .before .before .read .ensures) (c .before .before .before .before .before .before .before .before .before .before .before .before .tally-sound .ensures)) (omega arith) (omega arith)
+pack-graph-requires c κs = packable (held (c .before .before .before .before .before .before .before .before .before .before .before .before .read .ensures) (c .before .before .before .before .before .before .before .before .before .before .before .tally-of .ensures)) (omega arith) (omega arith)
 
 mul-clear : tie.Need-mul-clear
 mul-clear c = search needs
@@ -59,14 +61,14 @@ same-length-2 : tie.Need-same-length-2
 same-length-2 c = search needs
 
 returns-4 : tie.Need-returns-4
-returns-4 c = pack-done (held (c .before .before .before .before .before .before .before .before .before .before .before .before .before .before .before .before .before .before .before .before .before .before .read .ensures) (c .before .before .before .before .before .before .before .before .before .before .before .before .before .before .before .before .before .before .before .before .before .before .before .tally-sound .ensures)) _ _ _ (omega arith) (omega arith) (omega arith) (c .before .before .before .before .before .before .before .before .before .before .pack-graph .ensures) (c .before .before .clear .ensures)
+returns-4 c = pack-done (held (c .before .before .before .before .before .before .before .before .before .before .before .before .before .before .before .before .before .before .before .before .before .before .before .read .ensures) (c .before .before .before .before .before .before .before .before .before .before .before .before .before .before .before .before .before .before .before .before .before .before .tally-of .ensures)) _ _ _ (omega arith) (omega arith) (omega arith) (c .before .before .before .before .before .before .before .before .before .before .pack-graph .ensures) (c .before .before .clear .ensures)
 
 pub pack-sound-spec : {M : Type 1} → statement M
 pack-sound-spec =
     tie.close
     (tie.spec
-    tally-sound-requires
     read-requires
+    tally-of-requires
     cast-root
     cast-work-need
     cast-work-need-2

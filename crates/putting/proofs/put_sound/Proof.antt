@@ -7,11 +7,13 @@ use Rattle.steps.proofs.Works.{put-none, put-full, put-done}
 use Rattle.putting.proofs.put_sound.Statement.{statement}
 use Rattle.putting.proofs.put_sound.Tie as tie
 
-tally-sound-requires : tie.Need-tally-sound-requires
-tally-sound-requires c κs = search needs
-
 read-requires : tie.Need-read-requires
 read-requires c κs = search needs
+
+tally-of-requires : tie.Need-tally-of-requires
+tally-of-requires c κs =
+    let b = c .read .ensures .bounds in
+    (b .apart, b .inside, b .most, b .linkApart, b .linkInside, b .fewLinks)
 
 same-length : tie.Need-same-length
 same-length c = refl
@@ -22,12 +24,12 @@ same-length-2 c = refl
 returns : tie.Need-returns
 returns c =
     let k = c .before in
-    put-none (held (k .read .ensures) (k .before .before .before .tally-sound .ensures)) _ (c .if1 .taken)
+    put-none (held (k .before .read .ensures) (k .tally-of .ensures)) _ (c .if1 .taken)
 
 sub-if2 : tie.Need-sub-if2
 sub-if2 c =
     let k = c .before .before in
-    let h = held (k .read .ensures) (k .before .before .before .tally-sound .ensures) in
+    let h = held (k .before .read .ensures) (k .tally-of .ensures) in
     omega arith
 
 same-length-3 : tie.Need-same-length-3
@@ -39,12 +41,12 @@ same-length-4 c = refl
 returns-2 : tie.Need-returns-2
 returns-2 c =
     let k = c .before .before .before in
-    put-full (held (k .read .ensures) (k .before .before .before .tally-sound .ensures)) _ (omega arith) (omega arith)
+    put-full (held (k .before .read .ensures) (k .tally-of .ensures)) _ (omega arith) (omega arith)
 
 copy-requires : tie.Need-copy-requires
 copy-requires c κs =
     let k = c .before .before .before .before in
-    let h = held (k .read .ensures) (k .before .before .before .tally-sound .ensures) in
+    let h = held (k .before .read .ensures) (k .tally-of .ensures) in
     omega arith
 
 add-store : tie.Need-add-store
@@ -70,15 +72,15 @@ returns-3 c =
     let i2 = c .before .before .before .before .before .before .before .before .before in
     let i1 = i2 .before .before in
     let k = i1 .before in
-    let h = held (k .read .ensures) (k .before .before .before .tally-sound .ensures) in
+    let h = held (k .before .read .ensures) (k .tally-of .ensures) in
     rw (c .grow .ensures, c .before .before .before .before .before .before .before .copy .ensures, c .before .before .before .store2 .ensures) (put-done h _ (omega (arith, i1 .if1 .left)) (omega (arith, i2 .if2 .left)))
 
 pub put-sound-spec : {M : Type 1} → statement M
 put-sound-spec =
     tie.close
     (tie.spec
-    tally-sound-requires
     read-requires
+    tally-of-requires
     same-length
     same-length-2
     returns

@@ -1,7 +1,7 @@
 -- The moves and stores are those of the contract, in its order.
-use Rattle.closing.proofs.Closes.{seal-done}
-use Rattle.closing.proofs.seal_words.Statement.{statement}
-use Rattle.closing.proofs.seal_words.Tie as tie
+use Rattle.sealing.proofs.Sealed.{seal-done}
+use Rattle.sealing.proofs.seal_words.Statement.{statement}
+use Rattle.sealing.proofs.seal_words.Tie as tie
 use borrow.Author.Needs.{needs}
 use native.Mathlib.Omega.{arith}
 
@@ -88,7 +88,7 @@ returns c =
     let c1 = c2 .before .before .before .before in
     let c0 = c1 .before .before .before .before in
     let p = c0 .before .before .before .before .before .before .before .before .pre in
-    rw (c4 .store4 .ensures, c3 .store3 .ensures, c2 .store2 .ensures, c1 .store .ensures, c0 .move-up .ensures) (seal-done (p .0) (p .3) (p .5) (p .6))
+    rw (c4 .store4 .ensures, c3 .store3 .ensures, c2 .store2 .ensures, c1 .store .ensures, c0 .move-up .ensures) (seal-done p)
 
 pub seal-words-spec : {M : Type 1} → statement M
 seal-words-spec =

@@ -1,7 +1,7 @@
 -- Moved up to end at `low`, then cleared from where they were.
 use Prim.Native.Nat.{_+_, _-_}
-use Rattle.closing.proofs.seal_bytes.Statement.{statement}
-use Rattle.closing.proofs.seal_bytes.Tie as tie
+use Rattle.sealing.proofs.seal_bytes.Statement.{statement}
+use Rattle.sealing.proofs.seal_bytes.Tie as tie
 use borrow.Author.Needs.{needs}
 use mathlib.Core.Path.{_≡_}
 use native.Mathlib.Omega.{arith}
