@@ -20,7 +20,8 @@ use Rattle.model.proofs.Waits.{waits-without}
 use Rattle.model.proofs.Reach.{reached-rooted}
 use Rattle.model.proofs.Orders.{Inv, next-free, next-inv, length-left, rooted-inv}
 use Rattle.reach.specs.Pass.{relaxed}
-use Rattle.placing.specs.Run.{Queue, leastFrom, leastAt, removeAt, released, releasedAll, placing, keyBy, runOrder}
+use Rattle.ready.specs.Ready.{Queue, leastFrom, leastAt, removeAt, released, keyBy}
+use Rattle.placing.specs.Run.{releasedAll, placing, runOrder}
 use Rattle.order.specs.Try.{orderOf}
 use Rattle.order.proofs.Reached.{Light, counts-waits, dists-distance}
 

@@ -13,7 +13,8 @@ use Rattle.model.specs.Distance.{kahnOrder, distanceOrder}
 use Rattle.model.specs.Table.{placeOf, unfit}
 use Rattle.graph.specs.Graph.{graphIn, Tidy}
 use Rattle.reach.specs.Pass.{relaxed}
-use Rattle.placing.specs.Run.{runOrder, keyBy, OrderIds}
+use Rattle.ready.specs.Ready.{keyBy}
+use Rattle.placing.specs.Run.{runOrder, OrderIds}
 use Rattle.fitting.specs.Fit.{placesFrom, look}
 use Rattle.fitting.specs.declared.Look.{Look}
 use Rattle.fitting.specs.declared.Look.the-variants.{Fits, Over}

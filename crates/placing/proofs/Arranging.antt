@@ -10,7 +10,8 @@ use Rattle.regions.proofs.Laws.{region-length}
 use Rattle.regions.proofs.Frame.{kept-then, kept-less}
 use Rattle.graph.specs.Graph.{graphIn}
 use Rattle.reach.specs.Pass.{Pass, Passes, relaxed}
-use Rattle.placing.specs.Run.{keyBy, runOrder, Starting, Ordered, Arranging, Arranged}
+use Rattle.ready.specs.Ready.{keyBy}
+use Rattle.placing.specs.Run.{runOrder, Starting, Ordered, Arranging, Arranged}
 use Rattle.graph.proofs.Links.{tidy-kept}
 use Rattle.placing.proofs.Root.{root-waits, waiting-fewer}
 

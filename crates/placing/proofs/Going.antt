@@ -12,7 +12,8 @@ use Rattle.regions.proofs.Laws.{region-length, region-over, region-push}
 use Rattle.regions.proofs.Frame.{kept-all, kept-then, kept-set, kept-below}
 use Rattle.model.specs.Graph.{Graph}
 use Rattle.graph.specs.Graph.{graphIn}
-use Rattle.placing.specs.Run.{Run, placed, placing, runOrder, waiting, runOf, keyBy, Live, Places, AllPlaced, Starting, Ordered}
+use Rattle.ready.specs.Ready.{waiting, keyBy}
+use Rattle.placing.specs.Run.{Run, placed, placing, runOrder, runOf, Live, Places, AllPlaced, Starting, Ordered}
 use Rattle.graph.proofs.Links.{tidy-kept}
 use Rattle.placing.proofs.Releasing.{front-kept}
 

@@ -1,5 +1,3 @@
-pub mod Least
-pub mod Removing
 pub mod Releasing
 pub mod Taking
 pub mod Going

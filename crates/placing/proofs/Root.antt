@@ -14,7 +14,7 @@ use Rattle.model.specs.Graph.{Graph}
 use Rattle.model.specs.Distance.{weight}
 use Rattle.graph.specs.Graph.{graphIn, linksFrom, linksAt, linkCount, Tidy, TidyNode}
 use Rattle.reach.specs.Pass.{Pass, touched, touchedAll, passed, begun, relaxed}
-use Rattle.placing.specs.Run.{waiting}
+use Rattle.ready.specs.Ready.{waiting}
 use Rattle.graph.proofs.Links.{links-in}
 
 abbrev AllLower : ℕ → List Link → Type 0

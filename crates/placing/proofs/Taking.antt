@@ -1,37 +1,18 @@
 -- One node placed: the ready one of least key taken, and its links taken off.
 use mathlib.Core.Path.{_≡_, ap, _∙_}
 use Prim.Native.Nat.{ℕ, _+_, _-_, _*_, _<_}
-use mathlib.Core.List.{List, [], _∷_, _++_}
+use mathlib.Core.List.{List, [], _∷_}
 use mathlib.Core.Bool.{Bool}
 use native.Mathlib.Omega.{arith}
-use lib.ListN.{getD, set, take, drop}
+use lib.ListN.{take, drop}
 use Rattle.regions.specs.Region.{region, top}
-use Rattle.regions.proofs.Laws.{region-length, region-at, region-over, region-push}
+use Rattle.regions.proofs.Laws.{region-length}
 use Rattle.regions.proofs.Bounds.{top-at, top-append, top-take, top-drop}
-use Rattle.regions.proofs.Frame.{kept-then, kept-set, kept-less, kept-below, kept-above}
-use Rattle.placing.specs.Run.{Queue, leastAt, waiting, keyBy, Taking, Removed, Live, ReleasedAll, Took, Places}
+use Rattle.regions.proofs.Frame.{kept-then, kept-less, kept-above}
+use Rattle.ready.specs.Ready.{Queue, leastAt, waiting, keyBy, Took}
+use Rattle.placing.specs.Run.{Live, ReleasedAll, Places}
 use Rattle.graph.proofs.Links.{tidy-kept}
 use Rattle.placing.proofs.Releasing.{front-kept}
-
-pub take-stores : {p g k q x i : ℕ} {w w′ : List ℕ} → Taking p g k q x w → Removed (g + p * 3) x k w w′ → i ≡ getD w (g + p * 3 + x) 0
-    → Took p g k q x i w (set w′ (g + p * 4 + q) i)
-take-stores {p} {g} {k} {q} {x} {i} {w} {w′} t s e =
-    record {
-      kept =
-          kept-then (kept-less (s .kept) (g + p * 2) (g + p * 5) (omega arith) (omega arith))
-          (kept-set (g + p * 2) (g + p * 5) w′ (g + p * 4 + q) i (omega arith) (omega arith));
-      id = e ∙ region-at (g + p * 3) k w x (t .ready);
-      queue =
-          rw (
-            region-over (g + p * 2) p w′ (g + p * 4 + q) i (omega arith),
-            region-over (g + p * 3) (k - 1) w′ (g + p * 4 + q) i (omega arith),
-            s .rest,
-            kept-below (s .kept) (g + p * 2) p (omega arith),
-          );
-      order =
-          region-push (g + p * 4) q w′ i (omega arith)
-          ∙ ap (λ (o : List ℕ). o ++ (i ∷ [])) (kept-above (s .kept) (g + p * 4) q (omega arith));
-    }
 
 module _ {p g n k q x i : ℕ} {w w₁ : List ℕ} (v : Live p g n k w) (s : Took p g k q x i w w₁) (h : x < k) where
   pub took-id : i < n

@@ -2,8 +2,8 @@
 use Prim.Native.Nat.{_+_}
 use borrow.Author.Needs.{needs}
 use Rattle.regions.proofs.Laws.{region-at}
-use Rattle.placing.proofs.key_of.Statement.{statement}
-use Rattle.placing.proofs.key_of.Tie as tie
+use Rattle.ready.proofs.key_of.Statement.{statement}
+use Rattle.ready.proofs.key_of.Tie as tie
 
 add-result : tie.Need-add-result
 add-result c = search needs

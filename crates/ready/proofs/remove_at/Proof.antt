@@ -1,9 +1,9 @@
 -- `remove_at` meets its contract: what is moved, with what is left to move, is the region without the word.
 use Prim.Native.Nat.{_-_}
 use borrow.Author.Needs.{needs}
-use Rattle.placing.proofs.Removing.{Removing, removing-none, removing-next, removing-all}
-use Rattle.placing.proofs.remove_at.Statement.{statement}
-use Rattle.placing.proofs.remove_at.Tie as tie
+use Rattle.ready.proofs.Removing.{Removing, removing-none, removing-next, removing-all}
+use Rattle.ready.proofs.remove_at.Statement.{statement}
+use Rattle.ready.proofs.remove_at.Tie as tie
 
 abbrev Inv-loop : tie.InvT-loop
 Inv-loop work₀ a x k i₀ work i = Removing a x k i work₀ work

@@ -1,9 +1,9 @@
 -- `take_ready` meets its contract: a word taken out of one region, and stored behind another.
 use mathlib.Core.Path.{refl}
 use borrow.Author.Needs.{needs}
-use Rattle.placing.proofs.Taking.{take-stores}
-use Rattle.placing.proofs.take_ready.Statement.{statement}
-use Rattle.placing.proofs.take_ready.Tie as tie
+use Rattle.ready.proofs.Taking.{take-stores}
+use Rattle.ready.proofs.take_ready.Statement.{statement}
+use Rattle.ready.proofs.take_ready.Tie as tie
 
 mul-at : tie.Need-mul-at
 mul-at c = search needs

@@ -11,7 +11,7 @@ use Rattle.lists.proofs.Runs.{drop-first}
 use Rattle.regions.specs.Region.{region}
 use Rattle.regions.proofs.Laws.{region-length, region-at}
 use Rattle.regions.proofs.Bounds.{top-at}
-use Rattle.placing.specs.Run.{leastFrom, leastAt, keyBy, Choosing}
+use Rattle.ready.specs.Ready.{leastFrom, leastAt, keyBy, Choosing}
 
 module _ (key : ℕ → ℕ) where
   least-start : (l : List ℕ) → 0 < length l → leastAt key l ≡ leastFrom key 0 (key (getD l 0 0)) 1 (drop 1 l)

@@ -2,9 +2,9 @@
 use native.Mathlib.Omega.{arith}
 use lib.ListN.{length-set}
 use borrow.Author.Needs.{needs}
-use Rattle.placing.proofs.Releasing.{release-none, release-some, release-last, release-room}
-use Rattle.placing.proofs.release.Statement.{statement}
-use Rattle.placing.proofs.release.Tie as tie
+use Rattle.ready.proofs.Releasing.{release-none, release-some, release-last, release-room}
+use Rattle.ready.proofs.release.Statement.{statement}
+use Rattle.ready.proofs.release.Tie as tie
 
 mul-j : tie.Need-mul-j
 mul-j c = search needs

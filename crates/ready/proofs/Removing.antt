@@ -9,7 +9,7 @@ use Rattle.lists.proofs.Runs.{drop-first}
 use Rattle.regions.specs.Region.{region, Kept}
 use Rattle.regions.proofs.Laws.{region-length, region-at, region-push}
 use Rattle.regions.proofs.Frame.{kept-all, kept-then, kept-set, kept-less}
-use Rattle.placing.specs.Run.{removeAt, Removed}
+use Rattle.ready.specs.Ready.{removeAt, Removed}
 
 -- what is left to move is at and above i + 1
 pub record Removing (a x k i : ℕ) (w₀ w : List ℕ) : Type 0 where

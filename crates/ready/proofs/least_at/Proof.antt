@@ -2,9 +2,9 @@
 use Prim.Native.Nat.{_-_}
 use native.Mathlib.Omega.{arith}
 use borrow.Author.Needs.{needs}
-use Rattle.placing.proofs.Least.{Least, ready-id, ready-first, least-first, least-better, least-worse, least-done}
-use Rattle.placing.proofs.least_at.Statement.{statement}
-use Rattle.placing.proofs.least_at.Tie as tie
+use Rattle.ready.proofs.Least.{Least, ready-id, ready-first, least-first, least-better, least-worse, least-done}
+use Rattle.ready.proofs.least_at.Statement.{statement}
+use Rattle.ready.proofs.least_at.Tie as tie
 
 abbrev Inv-loop : tie.InvT-loop
 Inv-loop work p g k keyed at best₀ low₀ i₀ best low i = Least p g k best low i keyed work

@@ -1,0 +1,4 @@
+pub mod Least
+pub mod Removing
+pub mod Taking
+pub mod Releasing
