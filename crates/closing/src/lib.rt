@@ -5,6 +5,8 @@ use answer::Refusal;
 use counting::tally_of;
 use dropping::forget;
 use layout::state::read;
+use layout::words::ENDS_AT;
+use layout::words::LINK_ENDS_AT;
 use layout::words::word;
 use sealing::seal;
 use search::find;
@@ -23,12 +25,12 @@ pub fn close_sound(store: &mut [u8], records: &mut [u32]) -> Closing
     if d == 0 {
         return Closing::Refused(Refusal::NothingOpen, t);
     }
-    let from = word(records, 3 + (d - 1));
+    let from = word(records, ENDS_AT + (d - 1));
     let top = s.top;
     if top == from {
         return Closing::Refused(Refusal::EmptyObject, t);
     }
-    let first = word(records, 68 + (d - 1));
+    let first = word(records, LINK_ENDS_AT + (d - 1));
     let i = find(store, records, s);
     if i < s.closed {
         forget(store, records, s, from);

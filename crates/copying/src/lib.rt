@@ -1,6 +1,9 @@
 // The closed objects of a session as a graph in the work memory.
 use layout::state::State;
+use layout::words::BEGINS_AT;
+use layout::words::LINK_BEGINS_AT;
 use layout::words::LINK_WORDS;
+use layout::words::LINKS_AT;
 use layout::words::word;
 ghost use Prim.Native.Nat.{_*_, _≤_};
 ghost use lib.ListN.{length};
@@ -15,12 +18,12 @@ fn copy_nodes(store: &[u8], records: &[u32], s: State, work: &mut [u64])
 {
     let p = s.objects;
     let closed = s.closed;
-    let begins = 134 + p;
+    let begins = LINK_BEGINS_AT + p;
     let mut i = 0;
     while i < closed {
-        let from = word(records, 133 + i + 1);
+        let from = word(records, BEGINS_AT + i + 1);
         let first = word(records, begins + i + 1);
-        work[i] = (word(records, 133 + i) - from) as u64;
+        work[i] = (word(records, BEGINS_AT + i) - from) as u64;
         work[p + i] = first as u64;
         work[p * 2 + i] = (word(records, begins + i) - first) as u64;
         i += 1;
@@ -32,7 +35,7 @@ fn copy_links(store: &[u8], records: &[u32], s: State, work: &mut [u64])
     requires { ⌜ Read (now store) (now records) s × (graphEnd (now records) ≤ length (now work)) ⌝ }
     ensures { λ _. ⌜ LinksCopied (linkLimit (now (records .entry)) * 3) (now (records .entry)) (now (work .entry)) (now (work .exit)) ⌝ }
 {
-    let base = 135 + s.objects * 2;
+    let base = LINKS_AT + s.objects * 2;
     let at = s.objects * 3;
     let end = s.links * LINK_WORDS;
     let mut i = 0;

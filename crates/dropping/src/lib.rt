@@ -4,6 +4,9 @@ use answer::Refusal;
 use counting::tally_of;
 use layout::state::State;
 use layout::state::read;
+use layout::words::ENDS_AT;
+use layout::words::LINK_ENDS_AT;
+use layout::words::OPEN_DEPTH;
 use layout::words::store as store_word;
 use layout::words::word;
 ghost use mathlib.Core.Path.{_≡_};
@@ -20,7 +23,7 @@ pub fn forget(store: &mut [u8], records: &mut [u32], s: State, from: usize)
     ensures words { λ _. ⌜ now (records .exit) ≡ droppedWords (now (records .entry)) ⌝ }
 {
     memory::bytes::clear(store, from, s.top);
-    store_word(records, 2, s.depth - 1);
+    store_word(records, OPEN_DEPTH, s.depth - 1);
 }
 
 pub fn drop_sound(store: &mut [u8], records: &mut [u32]) -> Answer
@@ -33,8 +36,8 @@ pub fn drop_sound(store: &mut [u8], records: &mut [u32]) -> Answer
     if d == 0 {
         return Answer::Refused(Refusal::NothingOpen, t);
     }
-    let from = word(records, 3 + (d - 1));
-    let links = s.link_top - word(records, 68 + (d - 1));
+    let from = word(records, ENDS_AT + (d - 1));
+    let links = s.link_top - word(records, LINK_ENDS_AT + (d - 1));
     let top = s.top;
     forget(store, records, s, from);
     Answer::Done(t.release(top - from, links))

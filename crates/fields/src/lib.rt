@@ -1,6 +1,11 @@
 // Tests of objects: whether the fields of every open and every closed one are right.
 use layout::counts::read_counts;
+use layout::words::BEGINS_AT;
+use layout::words::ENDS_AT;
+use layout::words::LINK_BEGINS_AT;
+use layout::words::LINK_ENDS_AT;
 use layout::words::LINK_WORDS;
+use layout::words::LINKS_AT;
 use layout::words::word;
 ghost use mathlib.Core.Path.{_≡_};
 ghost use Prim.Native.Nat.{_+_, _*_, _<_};
@@ -77,10 +82,10 @@ pub fn open_span(b: &[u8], w: &[u32], d: usize) -> Span
     ensures { λ r. ⌜ Lies (now (b .entry)) (now (w .entry)) (openAt (now (b .entry)) (now (w .entry)) d) r ⌝ }
 {
     Span {
-        from: word(w, 3 + d),
-        to: word(w, 3 + d + 1),
-        first: word(w, 68 + d),
-        last: word(w, 68 + d + 1),
+        from: word(w, ENDS_AT + d),
+        to: word(w, ENDS_AT + d + 1),
+        first: word(w, LINK_ENDS_AT + d),
+        last: word(w, LINK_ENDS_AT + d + 1),
     }
 }
 
@@ -88,10 +93,10 @@ pub fn closed_span(b: &[u8], w: &[u32], p: usize, i: usize) -> Span
     requires { ⌜ (headOk (length (now b)) (now w) ≡ true) × (holds (tableTests (now w)) ≡ true) × (p ≡ objectLimit (now w)) × (i < closedCount (now w)) × (134 + p + i + 1 < length (now w)) ⌝ }
     ensures { λ r. ⌜ Lies (now (b .entry)) (now (w .entry)) (closedAt (now (b .entry)) (now (w .entry)) i) r ⌝ }
 {
-    let at = 134 + p;
+    let at = LINK_BEGINS_AT + p;
     Span {
-        to: word(w, 133 + i),
-        from: word(w, 133 + i + 1),
+        to: word(w, BEGINS_AT + i),
+        from: word(w, BEGINS_AT + i + 1),
         last: word(w, at + i),
         first: word(w, at + i + 1),
     }
@@ -118,7 +123,7 @@ pub fn opens_ok(b: &[u8], w: &[u32]) -> bool
 {
     let k = read_counts(b.len(), w);
     let kids = k.closed;
-    let base = 135 + k.objects * 2;
+    let base = LINKS_AT + k.objects * 2;
     let mut d = k.depth;
     while 0 < d {
         d -= 1;
@@ -136,7 +141,7 @@ pub fn closed_ok(b: &[u8], w: &[u32]) -> bool
 {
     let k = read_counts(b.len(), w);
     let p = k.objects;
-    let base = 135 + p * 2;
+    let base = LINKS_AT + p * 2;
     let mut i = k.closed;
     while 0 < i {
         i -= 1;

@@ -1,4 +1,7 @@
 // The counts in the header of the record store.
+use crate::words::CLOSED_COUNT;
+use crate::words::OBJECT_LIMIT;
+use crate::words::OPEN_DEPTH;
 use crate::words::word;
 ghost use mathlib.Core.Path.{_≡_};
 ghost use mathlib.Core.Bool.{true};
@@ -17,8 +20,8 @@ pub fn read_counts(n: usize, w: &[u32]) -> Counts
     ensures { λ r. ⌜ Counted (now (w .entry)) r ⌝ }
 {
     Counts {
-        objects: word(w, 0),
-        closed: word(w, 1),
-        depth: word(w, 2),
+        objects: word(w, OBJECT_LIMIT),
+        closed: word(w, CLOSED_COUNT),
+        depth: word(w, OPEN_DEPTH),
     }
 }

@@ -1,4 +1,11 @@
 // What sound stores hold, by number.
+use crate::words::BEGINS_AT;
+use crate::words::CLOSED_COUNT;
+use crate::words::ENDS_AT;
+use crate::words::LINK_BEGINS_AT;
+use crate::words::LINK_ENDS_AT;
+use crate::words::OBJECT_LIMIT;
+use crate::words::OPEN_DEPTH;
 use crate::words::word;
 ghost use mathlib.Core.Path.{_≡_};
 ghost use mathlib.Core.Bool.{true};
@@ -21,17 +28,17 @@ pub fn read(b: &[u8], w: &[u32]) -> State
     requires { ⌜ sound (now b) (now w) ≡ true ⌝ }
     ensures { λ r. ⌜ Read (now (b .entry)) (now (w .entry)) r ⌝ }
 {
-    let p = word(w, 0);
-    let c = word(w, 1);
-    let d = word(w, 2);
+    let p = word(w, OBJECT_LIMIT);
+    let c = word(w, CLOSED_COUNT);
+    let d = word(w, OPEN_DEPTH);
     State {
         objects: p,
-        links: word(w, 134 + p),
+        links: word(w, LINK_BEGINS_AT + p),
         closed: c,
         depth: d,
-        top: word(w, 3 + d),
-        low: word(w, 133 + c),
-        link_top: word(w, 68 + d),
-        link_low: word(w, 134 + p + c),
+        top: word(w, ENDS_AT + d),
+        low: word(w, BEGINS_AT + c),
+        link_top: word(w, LINK_ENDS_AT + d),
+        link_low: word(w, LINK_BEGINS_AT + p + c),
     }
 }

@@ -4,7 +4,26 @@ ghost use Prim.Native.Nat.{_<_, _^_};
 ghost use lib.ListN.{length, getD, set};
 ghost use Rattle.layout.specs.Words.{need as recordsNeed};
 
-// The words of a link's record: its field's place, its width, its child.
+// The header.
+pub const OBJECT_LIMIT: usize = 0;
+
+pub const CLOSED_COUNT: usize = 1;
+
+pub const OPEN_DEPTH: usize = 2;
+
+// The tables of open objects: where each ends, in bytes and in links.
+pub const ENDS_AT: usize = 3;
+
+pub const LINK_ENDS_AT: usize = 68;
+
+// The tables of closed objects: where each begins, in bytes and, as many words further on as the object limit, in links.
+pub const BEGINS_AT: usize = 133;
+
+pub const LINK_BEGINS_AT: usize = 134;
+
+// The links' records, twice the object limit further on, and the words of one: its field's place, its width, its child.
+pub const LINKS_AT: usize = 135;
+
 pub const LINK_WORDS: usize = 3;
 
 pub fn word(w: &[u32], i: usize) -> usize
@@ -25,5 +44,5 @@ pub fn store(w: &mut [u32], i: usize, v: usize)
 pub fn need(objects: u32, links: u32) -> usize
     ensures { λ r. ⌜ r ≡ recordsNeed objects links ⌝ }
 {
-    135 + (objects as usize) * 2 + (links as usize) * LINK_WORDS
+    LINKS_AT + (objects as usize) * 2 + (links as usize) * LINK_WORDS
 }

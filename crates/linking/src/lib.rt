@@ -6,7 +6,10 @@ use counting::tally_of;
 use fields::width_ok;
 use layout::state::State;
 use layout::state::read;
+use layout::words::ENDS_AT;
+use layout::words::LINK_ENDS_AT;
 use layout::words::LINK_WORDS;
+use layout::words::LINKS_AT;
 use layout::words::store as store_word;
 use layout::words::word;
 ghost use mathlib.Core.Path.{_≡_};
@@ -24,13 +27,13 @@ fn append_link(store: &[u8], records: &mut [u32], s: State, width: usize, child:
 {
     let d = s.depth;
     let top = s.top;
-    let at = top - word(records, 3 + (d - 1));
-    let i = 135 + s.objects * 2 + s.link_top * LINK_WORDS;
+    let at = top - word(records, ENDS_AT + (d - 1));
+    let i = LINKS_AT + s.objects * 2 + s.link_top * LINK_WORDS;
     store_word(records, i, at);
     store_word(records, i + 1, width);
     store_word(records, i + 2, child);
-    store_word(records, 3 + d, top + width);
-    store_word(records, 68 + d, s.link_top + 1);
+    store_word(records, ENDS_AT + d, top + width);
+    store_word(records, LINK_ENDS_AT + d, s.link_top + 1);
 }
 
 pub fn link_sound(store: &[u8], records: &mut [u32], width: u32, id: ObjectId) -> Answer

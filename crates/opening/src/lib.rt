@@ -3,6 +3,9 @@ use answer::Answer;
 use answer::Refusal;
 use counting::tally_of;
 use layout::state::read;
+use layout::words::ENDS_AT;
+use layout::words::LINK_ENDS_AT;
+use layout::words::OPEN_DEPTH;
 use layout::words::store as store_word;
 ghost use mathlib.Core.Path.{_≡_};
 ghost use mathlib.Core.Bool.{true};
@@ -19,8 +22,8 @@ pub fn open_sound(store: &[u8], records: &mut [u32]) -> Answer
     if 64 <= d {
         return Answer::Refused(Refusal::DepthFull, t);
     }
-    store_word(records, 3 + d + 1, s.top);
-    store_word(records, 68 + d + 1, s.link_top);
-    store_word(records, 2, d + 1);
+    store_word(records, ENDS_AT + d + 1, s.top);
+    store_word(records, LINK_ENDS_AT + d + 1, s.link_top);
+    store_word(records, OPEN_DEPTH, d + 1);
     Answer::Done(t.open())
 }

@@ -1,7 +1,6 @@
 // The length of a table.
 use reach::marked_sum;
 use reach::relax;
-ghost use lib.ListN.{length};
 ghost use Rattle.reach.specs.Pass.{Measured, Relaxing};
 
 // The length of the table from a root: the sum of the sizes of all that it reaches.

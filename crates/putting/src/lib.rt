@@ -3,6 +3,7 @@ use answer::Answer;
 use answer::Refusal;
 use counting::tally_of;
 use layout::state::read;
+use layout::words::ENDS_AT;
 use layout::words::store as store_word;
 ghost use mathlib.Core.Path.{_≡_};
 ghost use mathlib.Core.Bool.{true};
@@ -24,6 +25,6 @@ pub fn put_sound(store: &mut [u8], records: &mut [u32], bytes: &[u8]) -> Answer
     }
     let top = s.top;
     memory::bytes::copy(store, top, bytes);
-    store_word(records, 3 + d, top + bytes.len());
+    store_word(records, ENDS_AT + d, top + bytes.len());
     Answer::Done(t.grow(bytes.len(), 0))
 }

@@ -1,6 +1,11 @@
 // The innermost open object added to the closed ones.
 use layout::state::State;
+use layout::words::BEGINS_AT;
+use layout::words::CLOSED_COUNT;
+use layout::words::LINK_BEGINS_AT;
 use layout::words::LINK_WORDS;
+use layout::words::LINKS_AT;
+use layout::words::OPEN_DEPTH;
 use layout::words::store as store_word;
 ghost use mathlib.Core.Path.{_≡_};
 ghost use Prim.Native.Nat.{_-_, _≤_};
@@ -30,17 +35,17 @@ fn seal_words(store: &[u8], records: &mut [u32], s: State, from: usize, first: u
     let low = s.low - (s.top - from);
     let links = s.link_top - first;
     let link_low = s.link_low - links;
-    let base = 135 + p * 2;
+    let base = LINKS_AT + p * 2;
     memory::words::move_up(
         records,
         base + first * LINK_WORDS,
         base + link_low * LINK_WORDS,
         links * LINK_WORDS,
     );
-    store_word(records, 133 + c + 1, low);
-    store_word(records, 134 + p + c + 1, link_low);
-    store_word(records, 1, c + 1);
-    store_word(records, 2, s.depth - 1);
+    store_word(records, BEGINS_AT + c + 1, low);
+    store_word(records, LINK_BEGINS_AT + p + c + 1, link_low);
+    store_word(records, CLOSED_COUNT, c + 1);
+    store_word(records, OPEN_DEPTH, s.depth - 1);
 }
 
 pub fn seal(store: &mut [u8], records: &mut [u32], s: State, from: usize, first: usize)

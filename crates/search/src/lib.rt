@@ -4,6 +4,7 @@ use fields::closed_span;
 use fields::open_span;
 use layout::state::State;
 use layout::words::LINK_WORDS;
+use layout::words::LINKS_AT;
 ghost use mathlib.Core.Path.{_≡_};
 ghost use Prim.Native.Nat.{_+_, _*_, _^_, _≤_, _<_};
 ghost use Rattle.layout.specs.Words.{openDepth};
@@ -26,7 +27,7 @@ fn runs_of(objects: usize, s: Span) -> Runs
     Runs {
         from: s.from,
         size: s.to - s.from,
-        at: 135 + objects * 2 + s.first * LINK_WORDS,
+        at: LINKS_AT + objects * 2 + s.first * LINK_WORDS,
         words: (s.last - s.first) * LINK_WORDS,
     }
 }

@@ -1,6 +1,10 @@
 // The soundness test, whole.
 use fields::closed_ok;
 use fields::opens_ok;
+use layout::words::BEGINS_AT;
+use layout::words::CLOSED_COUNT;
+use layout::words::ENDS_AT;
+use layout::words::OPEN_DEPTH;
 use layout::words::word;
 use tables::head_ok;
 use tables::tables_ok;
@@ -17,8 +21,8 @@ pub fn is_sound(b: &[u8], w: &[u32]) -> bool
     if !tables_ok(b.len(), w) {
         return false;
     }
-    let top = word(w, 3 + word(w, 2));
-    let low = word(w, 133 + word(w, 1));
+    let top = word(w, ENDS_AT + word(w, OPEN_DEPTH));
+    let low = word(w, BEGINS_AT + word(w, CLOSED_COUNT));
     if !memory::bytes::all_zero(&b[top..low]) {
         return false;
     }

@@ -2,10 +2,13 @@
 use answer::Answer;
 use answer::Refusal;
 use answer::Tally;
+use layout::words::BEGINS_AT;
+use layout::words::LINK_BEGINS_AT;
+use layout::words::OBJECT_LIMIT;
 use layout::words::need;
 use layout::words::store as store_word;
 ghost use mathlib.Core.Path.{_≡_};
-ghost use Prim.Native.Nat.{_≤_, _<_};
+ghost use Prim.Native.Nat.{_≤_};
 ghost use lib.ListN.{length};
 ghost use Rattle.layout.specs.Words.{need as recordsNeed};
 ghost use Rattle.steps.specs.Steps.{outcome, startStep, startWords};
@@ -18,9 +21,9 @@ fn start_words(records: &mut [u32], objects: u32, links: u32, bytes: usize)
     let end = need(objects, links);
     memory::words::clear(records, 0, end);
     let p = objects as usize;
-    store_word(records, 0, p);
-    store_word(records, 133, bytes);
-    store_word(records, 134 + p, links as usize);
+    store_word(records, OBJECT_LIMIT, p);
+    store_word(records, BEGINS_AT, bytes);
+    store_word(records, LINK_BEGINS_AT + p, links as usize);
 }
 
 // 13 where a limit or a store is outside its range, or the record store is short of its need.

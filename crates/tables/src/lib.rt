@@ -1,5 +1,13 @@
 // Tests of the record store: limits, lengths and counts, and the four tables.
 use layout::counts::read_counts;
+use layout::words::BEGINS_AT;
+use layout::words::CLOSED_COUNT;
+use layout::words::ENDS_AT;
+use layout::words::LINK_BEGINS_AT;
+use layout::words::LINK_ENDS_AT;
+use layout::words::LINKS_AT;
+use layout::words::OBJECT_LIMIT;
+use layout::words::OPEN_DEPTH;
 use layout::words::need;
 use layout::words::word;
 ghost use mathlib.Core.Path.{_≡_};
@@ -56,9 +64,9 @@ fn limits_ok(n: usize, w: &[u32]) -> bool
     requires { ⌜ linkBeginsAt (now w) < length (now w) ⌝ }
     ensures { λ r. ⌜ r ≡ (holds (inRange (limitsIn (now (w .entry)))) && leb (recordsNeed (objectLimit (now (w .entry))) (linkLimit (now (w .entry)))) (length (now (w .entry))) && eqb (storeLength (now (w .entry))) n) ⌝ }
 {
-    let p = word(w, 0);
-    let l = word(w, 134 + p);
-    let s = word(w, 133);
+    let p = word(w, OBJECT_LIMIT);
+    let l = word(w, LINK_BEGINS_AT + p);
+    let s = word(w, BEGINS_AT);
     (1 <= p)
         & (p <= 4096)
         & (l <= 16384)
@@ -73,17 +81,20 @@ fn counts_ok(w: &[u32]) -> bool
     requires { ⌜ linkEndsAt < length (now w) ⌝ }
     ensures { λ r. ⌜ r ≡ (leb (closedCount (now (w .entry))) (objectLimit (now (w .entry))) && leb (openDepth (now (w .entry))) mostOpen && eqb (getD (now (w .entry)) endsAt 0) 0 && eqb (getD (now (w .entry)) linkEndsAt 0) 0) ⌝ }
 {
-    (word(w, 1) <= word(w, 0)) & (word(w, 2) <= 64) & (word(w, 3) == 0) & (word(w, 68) == 0)
+    (word(w, CLOSED_COUNT) <= word(w, OBJECT_LIMIT))
+        & (word(w, OPEN_DEPTH) <= 64)
+        & (word(w, ENDS_AT) == 0)
+        & (word(w, LINK_ENDS_AT) == 0)
 }
 
 // Limits, lengths and counts, for a byte store of n bytes.
 pub fn head_ok(n: usize, w: &[u32]) -> bool
     ensures { λ r. ⌜ r ≡ headOk n (now (w .entry)) ⌝ }
 {
-    if w.len() < 135 {
+    if w.len() < LINKS_AT {
         return false;
     }
-    if w.len() < 135 + word(w, 0) * 2 {
+    if w.len() < LINKS_AT + word(w, OBJECT_LIMIT) * 2 {
         return false;
     }
     limits_ok(n, w) & counts_ok(w)
@@ -105,10 +116,10 @@ pub fn tables_ok(n: usize, w: &[u32]) -> bool
     let k = read_counts(n, w);
     let c = k.closed;
     let d = k.depth;
-    let at = 134 + k.objects;
-    rising(w, 3, d)
-        & rising(w, 68, d)
-        & falling(w, 133, c, 1)
+    let at = LINK_BEGINS_AT + k.objects;
+    rising(w, ENDS_AT, d)
+        & rising(w, LINK_ENDS_AT, d)
+        & falling(w, BEGINS_AT, c, 1)
         & falling(w, at, c, 0)
-        & (apart(w, 3 + d, 133 + c) & apart(w, 68 + d, at + c))
+        & (apart(w, ENDS_AT + d, BEGINS_AT + c) & apart(w, LINK_ENDS_AT + d, at + c))
 }

@@ -3,6 +3,7 @@ use fitting::less;
 use graph::field_at;
 use graph::link_count;
 use layout::state::State;
+use layout::words::BEGINS_AT;
 use layout::words::LINK_WORDS;
 use layout::words::word;
 ghost use mathlib.Core.Path.{_≡_};
@@ -60,8 +61,8 @@ pub fn write_table(
     while t < placed {
         let i = work[g + p * 4 + t] as usize;
         let place = work[g + p * 5 + i] as usize;
-        let from = word(records, 133 + i + 1);
-        let end = word(records, 133 + i);
+        let from = word(records, BEGINS_AT + i + 1);
+        let end = word(records, BEGINS_AT + i);
         write_object(&mut out[place..], &store[from..end], work, p, g, n, i);
         t += 1;
     }
