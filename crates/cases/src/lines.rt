@@ -13,14 +13,6 @@ pub struct Parsed {
     pub next: usize,
 }
 
-// The letter of a line; 0 of an empty one.
-pub fn letter(line: &[u8]) -> u8 {
-    if line.len() == 0 {
-        return 0;
-    }
-    line[0]
-}
-
 // The next line feed from `at` on, or the end.
 pub fn line_end(input: &[u8], at: usize) -> usize
     requires { ⌜ at ≤ length (now input) ⌝ }
@@ -51,7 +43,7 @@ pub fn arguments(input: &[u8], at: usize) -> Three {
 
 // A number with one digit more.
 fn with_digit(n: u32, d: u8) -> u32 {
-    ((n as u64 * 10 + digit(d)) % 4294967296) as u32
+    ((n as u64 * 10 + (d % 16) as u64) % 4294967296) as u32
 }
 
 // The decimal number from `at` on, and the place past the byte that ends it.
@@ -71,34 +63,24 @@ fn number(line: &[u8], at: usize) -> Parsed {
     }
 }
 
-// The value of a decimal digit.
-fn digit(d: u8) -> u64
+// The value of a hex digit.
+fn nibble(d: u8) -> u8
     ensures { λ r. ⌜ r ≤ 15 ⌝ }
 {
-    (d % 16) as u64
-}
-
-// The value of a hex digit.
-fn nibble(d: u8) -> u64
-    ensures { λ r. ⌜ r ≤ 24 ⌝ }
-{
-    if d < 58 { digit(d) } else { digit(d) + 9 }
-}
-
-// The byte of two hex digits.
-fn byte_of(high: u8, low: u8) -> u8 {
-    ((nibble(high) * 16 + nibble(low)) % 256) as u8
+    (d % 16 + d / 64 * 9) % 16
 }
 
 // The bytes in hex from the third byte of a line on, as far as there is space. Answers how many.
-pub fn unhex(line: &[u8], space: &mut [u8]) -> usize {
+pub fn unhex(line: &[u8], space: &mut [u8]) -> usize
+    ensures { λ r. ⌜ r ≤ length (now (space .entry)) ⌝ }
+{
     let mut k = 0;
     let mut i = 3;
     while i < line.len() {
         if space.len() <= k {
             break;
         }
-        space[k] = byte_of(line[i - 1], line[i]);
+        space[k] = nibble(line[i - 1]) * 16 + nibble(line[i]);
         k += 1;
         i += 2;
     }

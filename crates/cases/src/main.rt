@@ -26,7 +26,8 @@ fn run_lines(input: &[u8], from: usize, store: &mut [u8], records: &mut [u32]) -
             break;
         }
         let end = line_end(input, at);
-        call(&input[at..end], store, records);
+        let n = arguments(input, at);
+        call(input[at], n, &input[at..end], store, records);
         at = end + 1;
     }
     at
@@ -41,25 +42,21 @@ fn run_lent(input: &[u8], from: usize) -> usize
     let mut records: [u32; 512] = [0xa5a5a5a5; 512];
     let bytes: &mut [u8] = &mut store;
     let words: &mut [u32] = &mut records;
-    let n = at_most(lent.first as usize, bytes.len());
-    let r = at_most(lent.second as usize, words.len());
-    run_lines(input, from, &mut bytes[..n], &mut words[..r])
+    let n = at_most(lent.first, bytes.len());
+    let r = at_most(lent.second, words.len());
+    run_lines(input, from, &mut bytes[0..n], &mut words[0..r])
 }
 
-fn print_name(line: &[u8]) {
-    text(b"case ");
-    if 2 <= line.len() {
-        text(&line[2..]);
-    }
-    text(b"\n");
-}
-
+// The name stands behind the letter.
 fn run_case(input: &[u8], at: usize) -> usize
-    requires { ⌜ at ≤ length (now input) ⌝ }
+    requires { ⌜ at < length (now input) ⌝ }
     ensures { λ r. ⌜ at < r ⌝ }
 {
-    let end = line_end(input, at);
-    print_name(&input[at..end]);
+    let name = at + 1;
+    let end = line_end(input, name);
+    text(b"case");
+    text(&input[name..end]);
+    text(b"\n");
     run_lent(input, end + 1)
 }
 

@@ -4,10 +4,10 @@ ghost use Prim.Native.Nat.{_≤_};
 ghost use lib.ListN.{length};
 
 // n, or the most that there is.
-pub fn at_most(n: usize, most: usize) -> usize
+pub fn at_most(n: u32, most: usize) -> usize
     ensures { λ r. ⌜ r ≤ most ⌝ }
 {
-    if most < n { most } else { n }
+    if most < n as usize { most } else { n as usize }
 }
 
 // The longest byte store, output or put, of one byte.

@@ -1,6 +1,7 @@
 // A packed table drawn: its bytes, and for each offset an arrow from the object that holds it to where it leads.
 ghost use Prim.Native.Nat.{_+_, _≤_, _<_};
 ghost use lib.ListN.{length};
+use answer::Packing;
 use report::column;
 use report::hex;
 use report::repeat;
@@ -102,9 +103,12 @@ fn draw_table(table: &[u8]) {
     text(b"\n");
 }
 
-// The table in the first n bytes of a pack's output.
-pub fn draw(out: &[u8], n: usize) {
+// The table that a pack left at the front of its output.
+pub fn draw(out: &[u8], told: Packing) {
+    let Packing::Done(n, _) = told else {
+        return;
+    };
     if n <= out.len() {
-        draw_table(&out[..n]);
+        draw_table(&out[0..n]);
     }
 }

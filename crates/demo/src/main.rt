@@ -3,30 +3,19 @@ mod build;
 mod draw;
 
 use answer::ObjectId;
-use answer::Packing;
 use build::build;
 use draw::draw;
-use report::tell_pack;
 use report::text;
 
 // The root is the last object closed.
-fn pack(store: &[u8], records: &[u32], out: &mut [u8], work: &mut [u64]) -> usize {
-    let told = packer::pack(store, records, ObjectId(3), out, work);
-    tell_pack(told);
-    let Packing::Done(n, _) = told else {
-        return 0;
-    };
-    n
-}
-
 fn pack_and_draw(store: &[u8], records: &[u32]) {
     let mut out: [u8; 16] = [0; 16];
     let mut work: [u64; 48] = [0; 48];
-    let n = pack(store, records, &mut out, &mut work);
+    let told = printed::pack(store, records, ObjectId(3), &mut out, &mut work);
     text(
         b"\nThe packed table in hex: a is 61, d is 64. An offset counts from the first byte of the object that holds it.\n\n",
     );
-    draw(&out, n);
+    draw(&out, told);
 }
 
 // The memory that a session of 4 objects and 4 links needs, with room for 16 bytes.
@@ -37,6 +26,7 @@ fn main() {
         b"Four objects of one letter each: a links to b and c, and both link to d. d is written twice and kept once.\n\
 After each call: its number (0 is done, 4 no such closed object), the bytes and links held, the objects closed and open.\n\n",
     );
-    build(&mut store, &mut records);
+    // d, b over it, d a second time, c over it, and a over b and c. The link to 9 is refused and changes nothing, and e is dropped.
+    build(b"SOdCOb0COdCOc0COa192COeDT", &mut store, &mut records);
     pack_and_draw(&store, &records);
 }

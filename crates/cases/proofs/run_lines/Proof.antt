@@ -21,6 +21,12 @@ shared-slice-read-if1 c = search needs
 line-end-requires : tie.Need-line-end-requires Inv-loop μ-loop
 line-end-requires c κs = search needs
 
+arguments-requires : tie.Need-arguments-requires Inv-loop μ-loop
+arguments-requires c κs = search needs
+
+shared-slice-read-call : tie.Need-shared-slice-read-call Inv-loop μ-loop
+shared-slice-read-call c = search needs
+
 sub-call : tie.Need-sub-call Inv-loop μ-loop
 sub-call c = search needs
 
@@ -69,6 +75,8 @@ run-lines-spec =
     loop-holds
     shared-slice-read-if1
     line-end-requires
+    arguments-requires
+    shared-slice-read-call
     sub-call
     part-call-start
     part-call-end

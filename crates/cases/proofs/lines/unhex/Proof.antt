@@ -7,7 +7,7 @@ use Rattle.cases.proofs.lines.unhex.Statement.{statement}
 use Rattle.cases.proofs.lines.unhex.Tie as tie
 
 abbrev Inv-loop : tie.InvT-loop
-Inv-loop line space₀ k₀ i₀ space k i = (k ≤ i) × (3 ≤ i) × (length space ≡ length space₀)
+Inv-loop line space₀ k₀ i₀ space k i = (k ≤ i) × (3 ≤ i) × (k ≤ length space₀) × (length space ≡ length space₀)
 
 abbrev μ-loop : tie.MeasureT-loop
 μ-loop line space₀ k₀ i₀ space k i = length line - i
@@ -15,17 +15,26 @@ abbrev μ-loop : tie.MeasureT-loop
 loop-holds : tie.Need-loop-holds Inv-loop μ-loop
 loop-holds c = search needs
 
-sub-byte-of : tie.Need-sub-byte-of Inv-loop μ-loop
-sub-byte-of c = search needs
+sub-nibble : tie.Need-sub-nibble Inv-loop μ-loop
+sub-nibble c = search needs
 
-shared-slice-read-byte-of : tie.Need-shared-slice-read-byte-of Inv-loop μ-loop
-shared-slice-read-byte-of c = search needs
+shared-slice-read-nibble : tie.Need-shared-slice-read-nibble Inv-loop μ-loop
+shared-slice-read-nibble c = search needs
 
-shared-slice-read-byte-of-2 : tie.Need-shared-slice-read-byte-of-2 Inv-loop μ-loop
-shared-slice-read-byte-of-2 c = search needs
+nibble-requires : tie.Need-nibble-requires Inv-loop μ-loop
+nibble-requires c κs = search needs
 
-byte-of-requires : tie.Need-byte-of-requires Inv-loop μ-loop
-byte-of-requires c κs = search needs
+mul-space : tie.Need-mul-space Inv-loop μ-loop
+mul-space c = search needs
+
+shared-slice-read-nibble-2 : tie.Need-shared-slice-read-nibble-2 Inv-loop μ-loop
+shared-slice-read-nibble-2 c = search needs
+
+nibble-requires-2 : tie.Need-nibble-requires-2 Inv-loop μ-loop
+nibble-requires-2 c κs = search needs
+
+add-space : tie.Need-add-space Inv-loop μ-loop
+add-space c = search needs
 
 slice-write-space : tie.Need-slice-write-space Inv-loop μ-loop
 slice-write-space c = search needs
@@ -61,10 +70,13 @@ unhex-spec =
     Inv-loop
     μ-loop
     loop-holds
-    sub-byte-of
-    shared-slice-read-byte-of
-    shared-slice-read-byte-of-2
-    byte-of-requires
+    sub-nibble
+    shared-slice-read-nibble
+    nibble-requires
+    mul-space
+    shared-slice-read-nibble-2
+    nibble-requires-2
+    add-space
     slice-write-space
     add-k
     add-i

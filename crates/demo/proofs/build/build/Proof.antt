@@ -3,8 +3,8 @@ use Prim.Native.Nat.{_≤_, _-_}
 use mathlib.Core.Path.{_≡_}
 use lib.ListN.{length}
 use borrow.Author.Needs.{needs}
-use Rattle.demo.proofs.build.calls.Statement.{statement}
-use Rattle.demo.proofs.build.calls.Tie as tie
+use Rattle.demo.proofs.build.build.Statement.{statement}
+use Rattle.demo.proofs.build.build.Tie as tie
 
 abbrev Inv-loop : tie.InvT-loop
 Inv-loop steps store₀ records₀ i₀ store records i = (i ≤ length steps) × (length store ≡ length store₀) × (length records ≡ length records₀)
@@ -39,8 +39,8 @@ same-length-2 c = search needs
 returns : tie.Need-returns Inv-loop μ-loop
 returns c = search needs
 
-pub calls-spec : {M : Type 1} → statement M
-calls-spec =
+pub build-spec : {M : Type 1} → statement M
+build-spec =
     tie.close
     (tie.spec
     Inv-loop
