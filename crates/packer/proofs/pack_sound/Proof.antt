@@ -8,7 +8,7 @@ use Rattle.packer.proofs.pack_sound.Statement.{statement}
 use Rattle.packer.proofs.pack_sound.Tie as tie
 
 read-requires : tie.Need-read-requires
-read-requires c κs = search needs
+read-requires c κs = c .before .before .before .before .pre
 
 tally-of-requires : tie.Need-tally-of-requires
 tally-of-requires c κs =
@@ -31,16 +31,30 @@ none-requires : tie.Need-none-requires
 none-requires c κs = search needs
 
 returns : tie.Need-returns
-returns c = pack-little (held (c .before .before .before .before .before .before .before .read .ensures) (c .before .before .before .before .before .before .tally-of .ensures)) _ _ _ (c .none .ensures) (omega arith)
+returns c =
+    let n = c .before .before in
+    let k = n .before .before .before .before in
+    pack-little (held (k .before .read .ensures) (k .tally-of .ensures)) _ _ _ (c .none .ensures) (rw (n .work-need .ensures) at (c .before .if1 .taken))
 
 returns-2 : tie.Need-returns-2
-returns-2 c = pack-open (held (c .before .before .before .before .before .before .before .before .read .ensures) (c .before .before .before .before .before .before .before .tally-of .ensures)) _ _ _ (omega arith) (omega arith)
+returns-2 c =
+    let n = c .before .before .before in
+    let k = n .before .before .before .before in
+    pack-open (held (k .before .read .ensures) (k .tally-of .ensures)) _ _ _ (rw (n .work-need .ensures) at (c .before .before .if1 .left)) (c .if2 .taken)
 
 returns-3 : tie.Need-returns-3
-returns-3 c = pack-unknown (held (c .before .before .before .before .before .before .before .before .before .before .read .ensures) (c .before .before .before .before .before .before .before .before .before .tally-of .ensures)) _ _ _ (omega arith) (omega arith) (omega arith)
+returns-3 c =
+    let i = c .before .before .before .before in
+    let n = i .before in
+    let k = n .before .before .before .before in
+    pack-unknown (held (k .before .read .ensures) (k .tally-of .ensures)) _ _ _ (rw (n .work-need .ensures) at (i .if1 .left)) (c .before .before .if2 .left) (c .if3 .taken)
 
 pack-graph-requires : tie.Need-pack-graph-requires
-pack-graph-requires c κs = packable (held (c .before .before .before .before .before .before .before .before .before .before .before .before .read .ensures) (c .before .before .before .before .before .before .before .before .before .before .before .tally-of .ensures)) (omega arith) (omega arith)
+pack-graph-requires c κs =
+    let i = c .before .before .before .before .before .before in
+    let n = i .before in
+    let k = n .before .before .before .before in
+    packable (held (k .before .read .ensures) (k .tally-of .ensures)) (rw (n .work-need .ensures) at (i .if1 .left)) (c .before .before .if3 .left)
 
 mul-clear : tie.Need-mul-clear
 mul-clear c = search needs
@@ -61,7 +75,14 @@ same-length-2 : tie.Need-same-length-2
 same-length-2 c = search needs
 
 returns-4 : tie.Need-returns-4
-returns-4 c = pack-done (held (c .before .before .before .before .before .before .before .before .before .before .before .before .before .before .before .before .before .before .before .before .before .before .before .read .ensures) (c .before .before .before .before .before .before .before .before .before .before .before .before .before .before .before .before .before .before .before .before .before .before .tally-of .ensures)) _ _ _ (omega arith) (omega arith) (omega arith) (c .before .before .before .before .before .before .before .before .before .before .pack-graph .ensures) (c .before .before .clear .ensures)
+returns-4 c =
+    let l = c .before .before in
+    let q = l .before .before .before .before .before .before .before .before in
+    let j = q .before .before .before in
+    let i = j .before .before .before .before in
+    let n = i .before in
+    let k = n .before .before .before .before in
+    pack-done (held (k .before .read .ensures) (k .tally-of .ensures)) _ _ _ (rw (n .work-need .ensures) at (i .if1 .left)) (j .before .before .if2 .left) (j .if3 .left) (q .pack-graph .ensures) (l .clear .ensures)
 
 pub pack-sound-spec : {M : Type 1} → statement M
 pack-sound-spec =
