@@ -22,7 +22,7 @@ use Rattle.fields.specs.Spans.{Within, Lies}
 use Rattle.steps.specs.Steps.{inner, twinIn}
 use Rattle.steps.proofs.Tallies.{length-closed, closed-at}
 use Rattle.search.specs.declared.Runs.{Runs}
-use Rattle.search.specs.Runs.{runsOf, Held, Tested, Ground}
+use Rattle.search.specs.Runs.{runsOf, HasRuns, Tested, Ground}
 
 -- ---- the closed objects by id
 
@@ -72,8 +72,8 @@ same-links i k (x ∷ y ∷ z ∷ v) (x′ ∷ y′ ∷ z′ ∷ w) h m = rw (sa
 
 -- an object that lies there has these runs
 module _ {b w : List ℕ} {s : Span} (objects : ℕ) (e : objects ≡ objectLimit w) where
-  pub held : {o : Object} {r : Runs} → r ≡ runsOf objects s → Lies b w o s → Held b w o r
-  held z x =
+  pub has-runs : {o : Object} {r : Runs} → r ≡ runsOf objects s → Lies b w o s → HasRuns b w o r
+  has-runs z x =
       let k = x .within in
       let bytes : s .from + (s .to - s .from) ≡ s .to = omega (arith, k .order) in
       let words : linksAt w + s .first * linkWords + (s .last - s .first) * linkWords ≡ linksAt w + s .last * linkWords = omega (arith, k .linkOrder) in
@@ -87,17 +87,17 @@ module _ {b w : List ℕ} {s : Span} (objects : ℕ) (e : objects ≡ objectLimi
       })
 
   -- its links' words end inside the record store
-  pub held-room : Within b w s → 135 + objects * 2 + s .last * linkWords ≤ length w
-  held-room k = omega (arith, k .room)
+  pub runs-room : Within b w s → 135 + objects * 2 + s .last * linkWords ≤ length w
+  runs-room k = omega (arith, k .room)
 
 module _ {b w : List ℕ} {s : State} (r : Read b w s) where
   pub tested : Tested b w (s .objects)
   tested = record { head = sound-head b w (r .isSound); tables = sound-tests b w (r .isSound); objectsIs = r .objectsIs; room = omega arith; within = omega arith }
 
   pub ground : {own : Span} {o : Runs} → o ≡ runsOf (s .objects) own → Lies b w (openAt b w (s .depth - 1)) own → Ground b w (s .objects) (s .closed) o
-  ground z l = record { tested = tested; closedIs = r .closedIs; innerHeld = held (s .objects) (r .objectsIs) z (rw (r .depthIs) at l) }
+  ground z l = record { tested = tested; closedIs = r .closedIs; innerRuns = has-runs (s .objects) (r .objectsIs) z (rw (r .depthIs) at l) }
 
-module _ {b w : List ℕ} {o p : Object} {s t : Runs} (x : Held b w o s) (y : Held b w p t) where
+module _ {b w : List ℕ} {o p : Object} {s t : Runs} (x : HasRuns b w o s) (y : HasRuns b w p t) where
   same-runs : sameObject o p ≡ (sameList eqb (part (s .from) (s .from + s .size) b) (part (t .from) (t .from + t .size) b)
       && sameList eqb (part (s .at) (s .at + s .words) w) (part (t .at) (t .at + t .words) w))
   same-runs =
@@ -142,7 +142,7 @@ pub record Pair (b w : List ℕ) (i : ℕ) (s t : Runs) (j k : ℕ) : Type 0 whe
   pub otherWordsIn : t .at + s .words ≤ length w
   pub sameIs : sameObject (inner b w) (closedAt b w i) ≡ (alike b (s .from) (t .from) (s .size) j && alike w (s .at) (t .at) (s .words) k)
 
-pub pair-first : {b w : List ℕ} {i : ℕ} {s t : Runs} → Held b w (inner b w) s → Held b w (closedAt b w i) t → t .size ≡ s .size → t .words ≡ s .words → Pair b w i s t 0 0
+pub pair-first : {b w : List ℕ} {i : ℕ} {s t : Runs} → HasRuns b w (inner b w) s → HasRuns b w (closedAt b w i) t → t .size ≡ s .size → t .words ≡ s .words → Pair b w i s t 0 0
 unfolding alike
 pair-first x y h m =
     record {

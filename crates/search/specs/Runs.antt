@@ -17,7 +17,7 @@ abbrev pub runsOf : ℕ → Span → Runs
 runsOf objects s = record { from = s .from; size = s .to - s .from; at = 135 + objects * 2 + s .first * linkWords; words = (s .last - s .first) * linkWords }
 
 -- object o has these bytes and these words of links
-pub record Held (b w : List ℕ) (o : Object) (s : Runs) : Type 0 where
+pub record HasRuns (b w : List ℕ) (o : Object) (s : Runs) : Type 0 where
   pub bytesIn : s .from + s .size ≤ length b
   pub wordsIn : s .at + s .words ≤ length w
   pub count : ℕ
@@ -36,4 +36,4 @@ pub record Tested (b w : List ℕ) (objects : ℕ) : Type 0 where
 pub record Ground (b w : List ℕ) (objects closed : ℕ) (own : Runs) : Type 0 where
   pub tested : Tested b w objects
   pub closedIs : closed ≡ closedCount w
-  pub innerHeld : Held b w (inner b w) own
+  pub innerRuns : HasRuns b w (inner b w) own

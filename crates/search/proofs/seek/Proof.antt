@@ -1,5 +1,5 @@
 -- Each id that is passed is not the answer; the object at it is compared with the innermost open one by the bytes and the words that are left.
-use Rattle.search.proofs.Looks.{held, held-room, Look, look-first, look-none, look-here, look-next, Pair, other-size, other-words, pair-first, pair-byte, pair-word, bytes-differ, words-differ, pair-same}
+use Rattle.search.proofs.Looks.{has-runs, runs-room, Look, look-first, look-none, look-here, look-next, Pair, other-size, other-words, pair-first, pair-byte, pair-word, bytes-differ, words-differ, pair-same}
 use Prim.Native.Nat.{_-_, _≤_}
 use native.Mathlib.Omega.{arith}
 use borrow.Author.Needs.{needs}
@@ -34,22 +34,22 @@ closed-span-requires : tie.Need-closed-span-requires Inv-loop μ-loop Inv-loop2 
 closed-span-requires c κs = (c .before .before .before .before .pre .tested .head, c .before .before .before .before .pre .tested .tables, c .before .before .before .before .pre .tested .objectsIs, omega (arith, c .before .before .before .before .pre .closedIs), omega (arith, c .before .before .before .before .pre .tested, c .before .before .before .before .pre .closedIs))
 
 runs-of-requires : tie.Need-runs-of-requires Inv-loop μ-loop Inv-loop2 μ-loop2 Inv-next μ-next
-runs-of-requires c κs = (c .closed-span .ensures .within .order, c .closed-span .ensures .within .linkOrder, omega (arith, c .before .before .before .before .before .good, held-room _ (c .before .before .before .before .before .pre .tested .objectsIs) (c .closed-span .ensures .within)))
+runs-of-requires c κs = (c .closed-span .ensures .within .order, c .closed-span .ensures .within .linkOrder, omega (arith, c .before .before .before .before .before .good, runs-room _ (c .before .before .before .before .before .pre .tested .objectsIs) (c .closed-span .ensures .within)))
 
 next-less : tie.Need-next-less Inv-loop μ-loop Inv-loop2 μ-loop2 Inv-next μ-next
 next-less c = search needs
 
 next-again : tie.Need-next-again Inv-loop μ-loop Inv-loop2 μ-loop2 Inv-next μ-next
-next-again c = look-next (c .before .before .before .before .before .before .next .inv) (c .before .before .before .before .before .if1 .left) (other-size (c .before .before .before .before .before .before .before .before .before .pre .innerHeld) (held _ (c .before .before .before .before .before .before .before .before .before .pre .tested .objectsIs) (c .before .before .before .runs-of .ensures) (c .before .before .before .before .closed-span .ensures)) (c .if2 .taken))
+next-again c = look-next (c .before .before .before .before .before .before .next .inv) (c .before .before .before .before .before .if1 .left) (other-size (c .before .before .before .before .before .before .before .before .before .pre .innerRuns) (has-runs _ (c .before .before .before .before .before .before .before .before .before .pre .tested .objectsIs) (c .before .before .before .runs-of .ensures) (c .before .before .before .before .closed-span .ensures)) (c .if2 .taken))
 
 next-less-2 : tie.Need-next-less-2 Inv-loop μ-loop Inv-loop2 μ-loop2 Inv-next μ-next
 next-less-2 c = search needs
 
 next-again-2 : tie.Need-next-again-2 Inv-loop μ-loop Inv-loop2 μ-loop2 Inv-next μ-next
-next-again-2 c = look-next (c .before .before .before .before .before .before .before .before .before .next .inv) (c .before .before .before .before .before .before .before .before .if1 .left) (other-words (c .before .before .before .before .before .before .before .before .before .before .before .before .pre .innerHeld) (held _ (c .before .before .before .before .before .before .before .before .before .before .before .before .pre .tested .objectsIs) (c .before .before .before .before .before .before .runs-of .ensures) (c .before .before .before .before .before .before .before .closed-span .ensures)) (c .if3 .taken))
+next-again-2 c = look-next (c .before .before .before .before .before .before .before .before .before .next .inv) (c .before .before .before .before .before .before .before .before .if1 .left) (other-words (c .before .before .before .before .before .before .before .before .before .before .before .before .pre .innerRuns) (has-runs _ (c .before .before .before .before .before .before .before .before .before .before .before .before .pre .tested .objectsIs) (c .before .before .before .before .before .before .runs-of .ensures) (c .before .before .before .before .before .before .before .closed-span .ensures)) (c .if3 .taken))
 
 loop-holds : tie.Need-loop-holds Inv-loop μ-loop Inv-loop2 μ-loop2 Inv-next μ-next
-loop-holds c = (search needs, pair-first (c .before .before .before .before .before .before .before .before .before .before .before .before .pre .innerHeld) (held _ (c .before .before .before .before .before .before .before .before .before .before .before .before .pre .tested .objectsIs) (c .before .before .before .before .before .before .runs-of .ensures) (c .before .before .before .before .before .before .before .closed-span .ensures)) (c .before .before .before .if2 .left) (c .if3 .left))
+loop-holds c = (search needs, pair-first (c .before .before .before .before .before .before .before .before .before .before .before .before .pre .innerRuns) (has-runs _ (c .before .before .before .before .before .before .before .before .before .before .before .before .pre .tested .objectsIs) (c .before .before .before .before .before .before .runs-of .ensures) (c .before .before .before .before .before .before .before .closed-span .ensures)) (c .before .before .before .if2 .left) (c .if3 .left))
 
 add-if5 : tie.Need-add-if5 Inv-loop μ-loop Inv-loop2 μ-loop2 Inv-next μ-next
 add-if5 c = omega (arith, c .before .before .before .before .before .before .before .before .before .before .before .before .before .before .before .before .good)
