@@ -17,12 +17,11 @@ ghost use mathlib.Core.Bool.{true};
 ghost use Prim.Native.Nat.{_≤_, _<_};
 ghost use Rattle.layout.specs.Sound.{sound};
 ghost use Rattle.layout.specs.Known.{Read};
-ghost use Rattle.layout.specs.Words.{linkTop, linkLow, openDepth};
 ghost use Rattle.steps.specs.Steps.{outcome, linkStep, linkWordsOf};
 
 // The field's zero bytes stand there already: only words change.
 fn append_link(store: &[u8], records: &mut [u32], s: State, width: usize, child: usize)
-    requires { ⌜ Read (now store) (now records) s × (0 < openDepth (now records)) × (linkTop (now records) < linkLow (now records)) × (width ≤ 4) × (child < 4096) ⌝ }
+    requires { ⌜ Read (now store) (now records) s × (0 < s .depth) × (s .«link_top» < s .«link_low») × (width ≤ 4) × (child < 4096) ⌝ }
     ensures { λ _. ⌜ now (records .exit) ≡ linkWordsOf width child (now (records .entry)) ⌝ }
 {
     let d = s.depth;
@@ -44,7 +43,7 @@ pub fn link_sound(store: &[u8], records: &mut [u32], width: u32, id: ObjectId) -
     let t = tally_of(store.len(), s);
     let k = width as usize;
     let child = id.0 as usize;
-    if t.depth == 0 {
+    if s.depth == 0 {
         return Answer::Refused(Refusal::NothingOpen, t);
     }
     if !width_ok(k) {

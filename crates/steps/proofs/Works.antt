@@ -25,7 +25,7 @@ use Rattle.model.specs.Object.{Link, widthOk}
 use Rattle.model.specs.Judge.{mostObjects, mostLinks, mostBytes, mostOpen, Verdict, accepted, refused, Test, verdict, unsound, nothingOpen, inRange}
 use Rattle.model.proofs.Refusals.{Comes, none, this, next, verdict-is}
 use Rattle.layout.specs.declared.state.State.{State}
-use Rattle.layout.specs.Words.{closedCount, openDepth, endsAt, linkEndsAt, linksAt, linkWords, need, storeLength, linkLimit, top, linkTop, linkLow, wordsOf}
+use Rattle.layout.specs.Words.{closedCount, openDepth, endsAt, linkEndsAt, linksAt, linkWords, need, storeLength, linkLimit, top, linkTop, wordsOf}
 use Rattle.layout.specs.Sound.{sound}
 use Rattle.layout.specs.Known.{Read}
 use Rattle.layout.proofs.Facts.{sound-known}
@@ -93,17 +93,17 @@ module _ {b w : List ℕ} {s : State} {t : Tally} (h : Held b w s t) where
   idle : {ts : List Test} → s .depth ≡ 0 → Comes (unsound (sound b w) ∷ nothingOpen (tallyIn b w) ∷ ts) (refused Refusal.NothingOpen)
   idle k = next isSound (this (eq-eqb (openDepth w) 0 (omega arith)))
 
-  ready : {ts : List Test} {v : Verdict} → 0 < s .depth → Comes ts v → Comes (unsound (sound b w) ∷ nothingOpen (tallyIn b w) ∷ ts) v
+  ready : {ts : List Test} {v : Verdict} → (s .depth ≡ 0 → ⊥) → Comes ts v → Comes (unsound (sound b w) ∷ nothingOpen (tallyIn b w) ∷ ts) v
   ready k c = next isSound (next (ne-eqb (openDepth w) 0 (λ e. omega arith)) c)
 
   sizeIs : storeLength w ≡ length b
   sizeIs = sound-known (h .counts) .head .size
 
   module _ (n : ℕ) where
-    full : length b < t .bytes + n → ltb (storeLength w) (tallyIn b w .bytes + n) ≡ true
+    full : length b - t .bytes < n → ltb (storeLength w) (tallyIn b w .bytes + n) ≡ true
     full k = lt-ltb (storeLength w) (tallyIn b w .bytes + n) (omega (arith, sizeIs))
 
-    roomy : t .bytes + n ≤ length b → ltb (storeLength w) (tallyIn b w .bytes + n) ≡ false
+    roomy : n ≤ length b - t .bytes → ltb (storeLength w) (tallyIn b w .bytes + n) ≡ false
     roomy k = le-ltb (storeLength w) (tallyIn b w .bytes + n) (omega (arith, sizeIs))
 
   -- ---- open
@@ -126,11 +126,11 @@ module _ {b w : List ℕ} {s : State} {t : Tally} (h : Held b w s t) where
     unfolding putStep
     put-none k = settle-refused _ (idle k) (h .tallyIs)
 
-    pub put-full : 0 < s .depth → length b < t .bytes + length vs → outcome (Refused Refusal.StoreFull t) b w ≡ putStep vs b w
+    pub put-full : (s .depth ≡ 0 → ⊥) → length b - t .bytes < length vs → outcome (Refused Refusal.StoreFull t) b w ≡ putStep vs b w
     unfolding putStep
     put-full some k = settle-refused _ (ready some (this (full (length vs) k))) (h .tallyIs)
 
-    pub put-done : 0 < s .depth → t .bytes + length vs ≤ length b
+    pub put-done : (s .depth ≡ 0 → ⊥) → length vs ≤ length b - t .bytes
         → outcome (Done (grown (length vs) 0 t)) (over (s .top) vs b) (set w (endsAt + s .depth) (s .top + length vs)) ≡ putStep vs b w
     unfolding putStep
     put-done some k =
@@ -143,7 +143,7 @@ module _ {b w : List ℕ} {s : State} {t : Tally} (h : Held b w s t) where
   unfolding dropStep
   drop-none k = settle-refused _ (idle k) (h .tallyIs)
 
-  pub drop-done : {from first : ℕ} → 0 < s .depth → from ≡ under w → first ≡ linkUnder w
+  pub drop-done : {from first : ℕ} → (s .depth ≡ 0 → ⊥) → from ≡ under w → first ≡ linkUnder w
       → outcome (Done (released (s .top - from) (s .«link_top» - first) t)) (droppedBytes b w) (droppedWords w) ≡ dropStep b w
   unfolding dropStep
   drop-done some e f =
@@ -153,11 +153,11 @@ module _ {b w : List ℕ} {s : State} {t : Tally} (h : Held b w s t) where
   -- ---- link
 
   module _ (width id : ℕ) where
-    pub link-none : t .depth ≡ 0 → outcome (Refused Refusal.NothingOpen t) b w ≡ linkStep width id b w
+    pub link-none : s .depth ≡ 0 → outcome (Refused Refusal.NothingOpen t) b w ≡ linkStep width id b w
     unfolding linkStep
-    link-none k = settle-refused _ (idle (omega arith)) (h .tallyIs)
+    link-none k = settle-refused _ (idle k) (h .tallyIs)
 
-    module _ (some : 0 < s .depth) where
+    module _ (some : s .depth ≡ 0 → ⊥) where
       pub link-width : not (widthOk width) ≡ true → outcome (Refused Refusal.BadWidth t) b w ≡ linkStep width id b w
       unfolding linkStep
       link-width k = settle-refused _ (ready some (this k)) (h .tallyIs)
@@ -179,11 +179,11 @@ module _ {b w : List ℕ} {s : State} {t : Tally} (h : Held b w s t) where
             free : leb (linkLimit w) (tallyIn b w .links) ≡ false
             free = lt-leb (linkLimit w) (tallyIn b w .links) (omega arith)
 
-            pub link-room : length b < t .bytes + width → outcome (Refused Refusal.StoreFull t) b w ≡ linkStep width id b w
+            pub link-room : length b - t .bytes < width → outcome (Refused Refusal.StoreFull t) b w ≡ linkStep width id b w
             unfolding linkStep
             link-room k = settle-refused _ (ready some (next wide (next known (next free (this (full width k)))))) (h .tallyIs)
 
-            pub link-done : t .bytes + width ≤ length b → outcome (Done (grown width 1 t)) b (linkWordsOf width id w) ≡ linkStep width id b w
+            pub link-done : width ≤ length b - t .bytes → outcome (Done (grown width 1 t)) b (linkWordsOf width id w) ≡ linkStep width id b w
             unfolding linkStep
             link-done k = rw (h .tallyIs) (settle-accepted b w (ready some (next wide (next known (next free (next (roomy width k) none))))))
 
@@ -200,7 +200,7 @@ link-stored : (i : ℕ) (l : Link) (w : List ℕ) → i + 2 < length w → set (
 unfolding over
 link-stored i l w h = let e : i + 2 ≡ suc (suc i) = omega arith in rw (add-one, e) (rw append-assoc at (sets-eq (wordsOf l) w i (omega arith)))
 
-pub append-done : {b w : List ℕ} {s : State} {from : ℕ} (width child : ℕ) → Read b w s → linkTop w < linkLow w → from ≡ under w
+pub append-done : {b w : List ℕ} {s : State} {from : ℕ} (width child : ℕ) → Read b w s → s .«link_top» < s .«link_low» → from ≡ under w
     → let i = 135 + s .objects * 2 + s .«link_top» * linkWords in
     set (set (set (set (set w i (s .top - from)) (i + 1) width) (i + 2) child) (endsAt + s .depth) (s .top + width)) (linkEndsAt + s .depth) (s .«link_top» + 1)
     ≡ linkWordsOf width child w

@@ -1,7 +1,7 @@
 -- Each return is one way of `closeStep`.
 use mathlib.Core.Path.{refl}
 use Rattle.closing.proofs.Closes.{Ready, ready, sealing, close-none, close-empty, close-twin, close-full, close-new}
-use Rattle.steps.proofs.Held.{held, inner-from}
+use Rattle.steps.proofs.Held.{held, some-open, one-more, inner-from}
 use Rattle.closing.proofs.close_sound.Statement.{statement}
 use Rattle.closing.proofs.close_sound.Tie as tie
 use borrow.Author.Needs.{needs}
@@ -51,8 +51,10 @@ same-length-4 c = refl
 
 returns-2 : tie.Need-returns-2
 returns-2 c =
-    let r = c .before .before .before .before in
-    close-empty (held (r .before .read .ensures) (r .tally-of .ensures)) (omega arith) (inner-from (r .before .read .ensures) (omega arith) (c .before .word .ensures .0)) (c .if2 .taken)
+    let i1 = c .before .before .before in
+    let r = i1 .before in
+    let some = some-open (i1 .if1 .left) in
+    close-empty (held (r .before .read .ensures) (r .tally-of .ensures)) some (inner-from (r .before .read .ensures) some (c .before .word .ensures .0)) (c .if2 .taken)
 
 sub-word-2 : tie.Need-sub-word-2
 sub-word-2 c = search needs
@@ -78,7 +80,7 @@ sub-discard : tie.Need-sub-discard
 sub-discard c = omega (arith, inner (c .before .before .before .before .before .before .before .before .before .before .before .before))
 
 sub-discard-2 : tie.Need-sub-discard-2
-sub-discard-2 c = omega (arith, inner (c .before .before .before .before .before .before .before .before .before .before .before .before .before))
+sub-discard-2 c = inner (c .before .before .before .before .before .before .before .before .before .before .before .before .before) .links .order
 
 discard-requires : tie.Need-discard-requires
 discard-requires c κs = omega (arith, inner (c .before .before .before .before .before .before .before .before .before .before .before .before .before))
@@ -119,7 +121,8 @@ cast-t43 c = omega (arith, inner (c .before .before .before .before .before .bef
 add-requires : tie.Need-add-requires
 add-requires c κs =
     let n = c .before .before .before .before .before .before .before .before in
-    omega (arith, inner (n .before .before .before .before .before .before .before), n .if4 .left)
+    let k = inner (n .before .before .before .before .before .before .before) in
+    one-more (k .held) (n .if4 .left) (k .some)
 
 same-length-9 : tie.Need-same-length-9
 same-length-9 c = search needs

@@ -1,9 +1,8 @@
 -- Two ways: nothing is open, or the innermost object is forgotten.
 use mathlib.Core.Path.{refl}
 use borrow.Author.Needs.{needs}
-use Prim.Native.Nat.{_<_}
 use native.Mathlib.Omega.{arith}
-use Rattle.steps.proofs.Held.{held, inner-from, inner-first}
+use Rattle.steps.proofs.Held.{held, some-open, inner-from, inner-first}
 use Rattle.steps.proofs.Works.{drop-none, drop-done}
 use Rattle.dropping.proofs.drop_sound.Statement.{statement}
 use Rattle.dropping.proofs.drop_sound.Tie as tie
@@ -46,18 +45,23 @@ word-requires-2 : tie.Need-word-requires-2
 word-requires-2 c κs = search needs
 
 sub-links : tie.Need-sub-links
-sub-links c = inner-first (c .before .before .before .before .before .before .before .read .ensures) (omega arith) (c .before .word2 .ensures .0) .order
+sub-links c =
+    let i1 = c .before .before .before .before .before in
+    inner-first (i1 .before .before .read .ensures) (some-open (i1 .if1 .left)) (c .before .word2 .ensures .0) .order
 
 forget-requires : tie.Need-forget-requires
 forget-requires c κs =
-    let r = c .before .before .before .before .before .before .before .before .before .read .ensures in
-    let f = inner-from r (omega arith) (c .before .before .before .before .before .word .ensures .0) in
-    (r, omega arith, f .is, f .order)
+    let i1 = c .before .before .before .before .before .before .before in
+    let r = i1 .before .before .read .ensures in
+    let some = some-open (i1 .if1 .left) in
+    let f = inner-from r some (c .before .before .before .before .before .word .ensures .0) in
+    (r, some, f .is, f .order)
 
 sub-release : tie.Need-sub-release
 sub-release c =
-    let i1 = c .before .before .before .before .before .before .before .before .before .before .before .before in
-    inner-from (i1 .before .before .read .ensures) (omega (arith, i1 .if1 .left)) (c .before .before .before .before .before .before .before .before .before .before .word .ensures .0) .order
+    let v = c .before .before .before .before .before .before .before .before .before .before in
+    let i1 = v .before .before in
+    inner-from (i1 .before .before .read .ensures) (some-open (i1 .if1 .left)) (v .word .ensures .0) .order
 
 release-requires : tie.Need-release-requires
 release-requires c κs =
@@ -80,9 +84,9 @@ returns-2 c =
     let i1 = w1 .before .before in
     let k = i1 .before in
     let h = held (k .before .read .ensures) (k .tally-of .ensures) in
-    let some : 0 < k .before .read .result .depth = omega (arith, i1 .if1 .left) in
+    let some = some-open (i1 .if1 .left) in
     rw (c .release .ensures, f .forget .ensures .0, f .forget .ensures .1)
-    (drop-done h some (inner-from (k .before .read .ensures) some (w1 .word .ensures .0) .is) (inner-first (k .before .read .ensures) some (w2 .word2 .ensures .0) .is))
+    (drop-done h (i1 .if1 .left) (inner-from (k .before .read .ensures) some (w1 .word .ensures .0) .is) (inner-first (k .before .read .ensures) some (w2 .word2 .ensures .0) .is))
 
 pub drop-sound-spec : {M : Type 1} → statement M
 drop-sound-spec =

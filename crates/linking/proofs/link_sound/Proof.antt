@@ -1,8 +1,7 @@
 -- Six ways: five refusals in their order, or a link is appended.
 use mathlib.Core.Path.{refl}
 use borrow.Author.Needs.{needs}
-use native.Mathlib.Omega.{arith}
-use Rattle.steps.proofs.Held.{held}
+use Rattle.steps.proofs.Held.{held, some-open, held-bytes, room-counted, link-apart, id-small}
 use Rattle.steps.proofs.Works.{link-none, link-width, link-child, link-full, link-room, link-done, width-most}
 use Rattle.linking.proofs.link_sound.Statement.{statement}
 use Rattle.linking.proofs.link_sound.Tie as tie
@@ -34,9 +33,10 @@ same-length-2 c = refl
 
 returns-2 : tie.Need-returns-2
 returns-2 c =
-    let k = c .before .before .before .before .before in
+    let i1 = c .before .before in
+    let k = i1 .before .before .before in
     let h = held (k .before .read .ensures) (k .tally-of .ensures) in
-    link-width h _ _ (omega arith) (rw (c .before .width-ok .ensures) at (c .if2 .taken))
+    link-width h _ _ (i1 .if1 .left) (rw (c .before .width-ok .ensures) at (c .if2 .taken))
 
 same-length-3 : tie.Need-same-length-3
 same-length-3 c = refl
@@ -44,9 +44,10 @@ same-length-3 c = refl
 returns-3 : tie.Need-returns-3
 returns-3 c =
     let i2 = c .before .before in
-    let k = i2 .before .before .before .before .before in
+    let i1 = i2 .before .before in
+    let k = i1 .before .before .before in
     let h = held (k .before .read .ensures) (k .tally-of .ensures) in
-    link-child h _ _ (omega arith) (rw (i2 .before .width-ok .ensures) at (i2 .if2 .left)) (c .if3 .taken)
+    link-child h _ _ (i1 .if1 .left) (rw (i2 .before .width-ok .ensures) at (i2 .if2 .left)) (c .if3 .taken)
 
 same-length-4 : tie.Need-same-length-4
 same-length-4 c = refl
@@ -55,15 +56,15 @@ returns-4 : tie.Need-returns-4
 returns-4 c =
     let i3 = c .before .before .before in
     let i2 = i3 .before .before in
-    let k = i2 .before .before .before .before .before in
+    let i1 = i2 .before .before in
+    let k = i1 .before .before .before in
     let h = held (k .before .read .ensures) (k .tally-of .ensures) in
-    link-full h _ _ (omega arith) (rw (i2 .before .width-ok .ensures) at (i2 .if2 .left)) (i3 .if3 .left) (c .if4 .taken)
+    link-full h _ _ (i1 .if1 .left) (rw (i2 .before .width-ok .ensures) at (i2 .if2 .left)) (i3 .if3 .left) (c .if4 .taken)
 
 sub-if5 : tie.Need-sub-if5
 sub-if5 c =
     let k = c .before .before .before .before .before .before .before .before .before .before .before in
-    let h = held (k .before .read .ensures) (k .tally-of .ensures) in
-    omega arith
+    held-bytes (held (k .before .read .ensures) (k .tally-of .ensures))
 
 same-length-5 : tie.Need-same-length-5
 same-length-5 c = refl
@@ -73,19 +74,32 @@ returns-5 c =
     let i4 = c .before .before in
     let i3 = i4 .before .before .before in
     let i2 = i3 .before .before in
-    let k = i2 .before .before .before .before .before in
+    let i1 = i2 .before .before in
+    let k = i1 .before .before .before in
     let h = held (k .before .read .ensures) (k .tally-of .ensures) in
-    link-room h _ _ (omega arith) (rw (i2 .before .width-ok .ensures) at (i2 .if2 .left)) (i3 .if3 .left) (i4 .if4 .left) (omega arith)
+    link-room h _ _ (i1 .if1 .left) (rw (i2 .before .width-ok .ensures) at (i2 .if2 .left)) (i3 .if3 .left) (i4 .if4 .left) (c .if5 .taken)
 
 append-link-requires : tie.Need-append-link-requires
 append-link-requires c κs =
-    let i2 = c .before .before .before .before .before .before .before .before in
-    let k = i2 .before .before .before .before .before in
+    let i4 = c .before .before .before in
+    let i3 = i4 .before .before .before in
+    let i2 = i3 .before .before in
+    let i1 = i2 .before .before in
+    let k = i1 .before .before .before in
     let h = held (k .before .read .ensures) (k .tally-of .ensures) in
-    (k .before .read .ensures, omega arith, omega arith, width-most _ (rw (i2 .before .width-ok .ensures) at (i2 .if2 .left)), omega arith)
+    (h .counts, some-open (i1 .if1 .left), link-apart h (i4 .if4 .left), width-most _ (rw (i2 .before .width-ok .ensures) at (i2 .if2 .left)), id-small h (i3 .if3 .left))
 
 grow-requires : tie.Need-grow-requires
-grow-requires c κs = search needs
+grow-requires c κs =
+    let i5 = c .before .before .before .before in
+    let i4 = i5 .before .before in
+    let i3 = i4 .before .before .before in
+    let i2 = i3 .before .before in
+    let i1 = i2 .before .before in
+    let k = i1 .before .before .before in
+    let h = held (k .before .read .ensures) (k .tally-of .ensures) in
+    let r = room-counted h (i5 .if5 .left) in
+    (r .0, r .2)
 
 same-length-6 : tie.Need-same-length-6
 same-length-6 c = search needs
@@ -96,10 +110,11 @@ returns-6 c =
     let i4 = i5 .before .before in
     let i3 = i4 .before .before .before in
     let i2 = i3 .before .before in
-    let k = i2 .before .before .before .before .before in
+    let i1 = i2 .before .before in
+    let k = i1 .before .before .before in
     let h = held (k .before .read .ensures) (k .tally-of .ensures) in
     rw (c .grow .ensures, c .before .before .before .append-link .ensures)
-    (link-done h _ _ (omega arith) (rw (i2 .before .width-ok .ensures) at (i2 .if2 .left)) (i3 .if3 .left) (i4 .if4 .left) (omega (arith, i5 .if5 .left)))
+    (link-done h _ _ (i1 .if1 .left) (rw (i2 .before .width-ok .ensures) at (i2 .if2 .left)) (i3 .if3 .left) (i4 .if4 .left) (i5 .if5 .left))
 
 pub link-sound-spec : {M : Type 1} → statement M
 link-sound-spec =

@@ -40,14 +40,14 @@ returns-2 : tie.Need-returns-2
 returns-2 c =
     let n = c .before .before .before in
     let k = n .before .before .before .before in
-    pack-open (held (k .before .read .ensures) (k .tally-of .ensures)) _ _ _ (rw (n .work-need .ensures) at (c .before .before .if1 .left)) (c .if2 .taken)
+    pack-open (held (k .before .read .ensures) (k .tally-of .ensures)) _ _ _ (rw (n .work-need .ensures) at (c .before .before .if1 .left)) (omega (arith, c .if2 .taken))
 
 returns-3 : tie.Need-returns-3
 returns-3 c =
     let i = c .before .before .before .before in
     let n = i .before in
     let k = n .before .before .before .before in
-    pack-unknown (held (k .before .read .ensures) (k .tally-of .ensures)) _ _ _ (rw (n .work-need .ensures) at (i .if1 .left)) (c .before .before .if2 .left) (c .if3 .taken)
+    pack-unknown (held (k .before .read .ensures) (k .tally-of .ensures)) _ _ _ (rw (n .work-need .ensures) at (i .if1 .left)) (c .before .before .if2 .left) (omega (arith, c .if3 .taken))
 
 pack-graph-requires : tie.Need-pack-graph-requires
 pack-graph-requires c κs =

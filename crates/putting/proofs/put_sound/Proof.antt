@@ -1,8 +1,7 @@
 -- Three ways: nothing is open, there is no room, or the bytes are copied.
 use mathlib.Core.Path.{refl}
 use borrow.Author.Needs.{needs}
-use native.Mathlib.Omega.{arith}
-use Rattle.steps.proofs.Held.{held}
+use Rattle.steps.proofs.Held.{held, held-bytes, room-behind, room-counted}
 use Rattle.steps.proofs.Works.{put-none, put-full, put-done}
 use Rattle.putting.proofs.put_sound.Statement.{statement}
 use Rattle.putting.proofs.put_sound.Tie as tie
@@ -29,8 +28,7 @@ returns c =
 sub-if2 : tie.Need-sub-if2
 sub-if2 c =
     let k = c .before .before in
-    let h = held (k .before .read .ensures) (k .tally-of .ensures) in
-    omega arith
+    held-bytes (held (k .before .read .ensures) (k .tally-of .ensures))
 
 same-length-3 : tie.Need-same-length-3
 same-length-3 c = refl
@@ -40,14 +38,15 @@ same-length-4 c = refl
 
 returns-2 : tie.Need-returns-2
 returns-2 c =
-    let k = c .before .before .before in
-    put-full (held (k .before .read .ensures) (k .tally-of .ensures)) _ (omega arith) (omega arith)
+    let i1 = c .before .before in
+    let k = i1 .before in
+    put-full (held (k .before .read .ensures) (k .tally-of .ensures)) _ (i1 .if1 .left) (c .if2 .taken)
 
 copy-requires : tie.Need-copy-requires
 copy-requires c κs =
     let k = c .before .before .before .before in
     let h = held (k .before .read .ensures) (k .tally-of .ensures) in
-    omega arith
+    room-behind h (c .before .if2 .left)
 
 add-store : tie.Need-add-store
 add-store c = search needs
@@ -59,7 +58,12 @@ store-requires : tie.Need-store-requires
 store-requires c κs = search needs
 
 grow-requires : tie.Need-grow-requires
-grow-requires c κs = search needs
+grow-requires c κs =
+    let i2 = c .before .before .before .before .before .before .before .before in
+    let k = i2 .before .before .before in
+    let h = held (k .before .read .ensures) (k .tally-of .ensures) in
+    let r = room-counted h (i2 .if2 .left) in
+    (r .0, r .1)
 
 same-length-5 : tie.Need-same-length-5
 same-length-5 c = search needs
@@ -73,7 +77,7 @@ returns-3 c =
     let i1 = i2 .before .before in
     let k = i1 .before in
     let h = held (k .before .read .ensures) (k .tally-of .ensures) in
-    rw (c .grow .ensures, c .before .before .before .before .before .before .before .copy .ensures, c .before .before .before .store2 .ensures) (put-done h _ (omega (arith, i1 .if1 .left)) (omega (arith, i2 .if2 .left)))
+    rw (c .grow .ensures, c .before .before .before .before .before .before .before .copy .ensures, c .before .before .before .store2 .ensures) (put-done h _ (i1 .if1 .left) (i2 .if2 .left))
 
 pub put-sound-spec : {M : Type 1} → statement M
 put-sound-spec =
