@@ -3,7 +3,7 @@ use Prim.Native.Nat.{_+_, _-_}
 use Rattle.sealing.proofs.seal_bytes.Statement.{statement}
 use Rattle.sealing.proofs.seal_bytes.Tie as tie
 use borrow.Author.Needs.{needs}
-use mathlib.Core.Path.{_≡_}
+use mathlib.Core.Path.{_≡_, refl}
 use native.Mathlib.Omega.{arith}
 
 sub-n : tie.Need-sub-n
@@ -26,7 +26,7 @@ returns c =
     let m = c .before .before .before .before .before .before in
     let a = m .before .before .before .args in
     let n : a .from + (a .top - a .from) ≡ a .top = omega arith in
-    rw (c .before .before .clear .ensures, m .move-up .ensures, n)
+    rw (c .before .before .clear .ensures, m .move-up .ensures, n) refl
 
 pub seal-bytes-spec : {M : Type 1} → statement M
 seal-bytes-spec =
