@@ -1,4 +1,4 @@
--- Paper 01, "What each number means": the number of each refusal, and the values that it comes with.
+-- docs/RULES.md, section 6: the number of each refusal, and the values that it comes with.
 use Prim.Native.Nat.{ℕ}
 use Rattle.answer.specs.declared.Overflow.{Overflow}
 use Rattle.answer.specs.declared.tally.Tally.{Tally}

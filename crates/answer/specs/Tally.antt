@@ -1,4 +1,4 @@
--- How the counts change.
+-- docs/RULES.md, 3.6 to 3.8: how the counts change.
 use Prim.Native.Nat.{ℕ, _+_, _-_}
 use Rattle.answer.specs.declared.tally.Tally.{Tally}
 

@@ -1,4 +1,4 @@
--- The closed objects of a session as a graph in the work memory.
+-- docs/RULES.md, 5.8: the closed objects of a session, as pack reads them, as a graph in the work memory.
 use Prim.Native.Nat.{ℕ, _+_, _-_, _*_, _<_}
 use mathlib.Core.Path.{_≡_}
 use mathlib.Core.List.{List}

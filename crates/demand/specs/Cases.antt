@@ -1,4 +1,4 @@
--- Paper 01, "Counted by hand": the ten cases marked P on lent memory, by the definitions that the public promises cite. Every store, output
+-- docs/RULES.md, section 9: the hand-counted cases on lent memory, by the definitions that the public promises cite. Every store, output
 -- and work memory is lent with something stale in it.
 use Prim.Native.Nat.{ℕ}
 use mathlib.Core.List.{List, [], _∷_, _++_, map}
@@ -11,9 +11,9 @@ use Rattle.model.specs.Judge.{Limits}
 use Rattle.model.specs.Session.{SessionCall, startCall, openCall, putCall, linkCall, closeCall, dropCall, tallyCall, Call, sessionCall, packCall}
 use Rattle.model.specs.Cases.{Case, idsIn}
 use Rattle.layout.specs.Words.{need}
-use Rattle.steps.specs.Runs.{StoreCall, start, open', put, link, close, drop, tally}
+use Rattle.steps.specs.Runs.{StoreCall, start, open', put, link, close, drop, tally, LentCall, onStores, pack}
 use Rattle.layout.specs.Need.{workNeed}
-use Rattle.demand.specs.Demand.{LentCall, onStores, pack, Made, run}
+use Rattle.demand.specs.Demand.{Made, run}
 
 abbrev stale : ℕ
 stale = 0xa5

@@ -1,2 +1,4 @@
+pub mod Calls
+pub mod Orders
 pub mod Demand
 pub mod Cases

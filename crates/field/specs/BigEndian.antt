@@ -1,4 +1,4 @@
--- Offset fields (paper 01: link fields): numbers in a width of bytes, the highest byte first. Every width is one definition.
+-- docs/RULES.md, 2.7 and 7.7: offset fields are numbers in a width of bytes, the highest byte first. Every width is one definition.
 use Prim.Native.Nat.{ℕ, zero, suc, _+_, _*_, _/_, _%_, _^_}
 use mathlib.Core.List.{List, [], _∷_, _++_}
 use mathlib.Core.Bool.{Bool}

@@ -1,4 +1,4 @@
--- Where an object lies in the two stores.
+-- docs/RULES.md, 3.4: where an object lies in the two stores.
 use mathlib.Core.Path.{_≡_}
 use Prim.Native.Nat.{ℕ, _+_, _*_, _≤_}
 use mathlib.Core.List.{List}

@@ -1,4 +1,4 @@
--- Places in placing order, and the first link that does not fit.
+-- docs/RULES.md, 7.5 to 7.8, in the work memory: places in placing order, and the first link that does not fit.
 use Prim.Native.Nat.{ℕ, _+_, _*_, _≤_}
 use mathlib.Core.Path.{_≡_}
 use mathlib.Core.List.{List, [], _∷_}

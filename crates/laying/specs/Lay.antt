@@ -1,4 +1,4 @@
--- Orders laid: placed in the work memory and, where every offset fits, the table written in front of the output.
+-- docs/RULES.md, 7.9, on lent memory: orders laid: placed in the work memory and, where every offset fits, the table written in front of the output.
 use Prim.Native.Nat.{ℕ, _≤_, _<_}
 use mathlib.Core.Path.{_≡_}
 use mathlib.Core.List.{List, []}

@@ -1,4 +1,4 @@
--- The counts in a header that passes its tests, and what they bound.
+-- docs/RULES.md, 4.1 to 4.4: the counts in a header that passes its tests, and what they bound.
 use mathlib.Core.Path.{_≡_}
 use Prim.Native.Nat.{ℕ, _+_, _*_, _≤_}
 use mathlib.Core.List.{List}

@@ -1,4 +1,4 @@
--- What the two stores hold, read off their words: total, and meant where they are sound.
+-- docs/RULES.md, 3.4: what the two stores hold, read off their words: total, and meant where they are sound.
 use Prim.Native.Nat.{ℕ, zero, suc, _+_, _*_}
 use mathlib.Core.List.{List, [], _∷_, _++_}
 use lib.ListN.{getD}

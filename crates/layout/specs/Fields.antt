@@ -1,4 +1,4 @@
--- When an object's fields are right.
+-- docs/RULES.md, 4.7 and 4.8: when an object's fields are right.
 use Prim.Native.Nat.{ℕ, _+_}
 use mathlib.Core.List.{List, [], _∷_}
 use mathlib.Core.Bool.{Bool, true, _&&_}

@@ -1,4 +1,4 @@
--- What sound stores are known to have, by name: numbers that the code of the calls leans on.
+-- docs/RULES.md, section 4: what sound stores are known to have, by name: numbers that the code of the calls leans on.
 use mathlib.Core.Path.{_≡_}
 use mathlib.Core.Bool.{true}
 use Prim.Native.Nat.{ℕ, _+_, _*_, _≤_}

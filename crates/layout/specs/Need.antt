@@ -1,4 +1,4 @@
--- How many words the work memory needs.
+-- docs/RULES.md, 3.3: how many words the work memory needs.
 use Prim.Native.Nat.{ℕ, _+_, _*_, _≤_}
 use native.Mathlib.Omega.{arith}
 

@@ -1,4 +1,4 @@
--- Paper 01, "Sound", clause by clause.
+-- docs/RULES.md, section 4, clause by clause.
 use Prim.Native.Nat.{ℕ}
 use mathlib.Core.List.{List, [], _∷_}
 use mathlib.Core.Bool.{Bool}

@@ -1,4 +1,4 @@
--- Tests of a table's neighbours, by one recursion from the front.
+-- docs/RULES.md, 4.5 and 4.6: tests of a table's neighbours, by one recursion from the front.
 use Prim.Native.Nat.{ℕ, zero, suc, _+_}
 use mathlib.Core.List.{List, [], _∷_}
 use mathlib.Core.Bool.{Bool, true, _&&_}

@@ -1,4 +1,4 @@
--- The words of the record store. Byte store and links are stacked alike: open objects from the front, closed ones from the back.
+-- docs/RULES.md, 3.3 and 3.4: the words of the record store, as docs/LAYOUT.md draws them. Byte store and links are stacked alike: open objects from the front, closed ones from the back.
 -- A table has a first entry that is a constant, so that every object lies between two neighbours.
 use Prim.Native.Nat.{ℕ, _+_, _*_, _≤_}
 use mathlib.Core.List.{List, [], _∷_}

@@ -44,3 +44,8 @@ total f (x ∷ l) = f x + total f l
 unfoldable pub firstThat : {A : Type 0} → (A → Bool) → List A → ℕ
 firstThat test [] = 0
 firstThat test (x ∷ l) = pick (test x) 0 (suc (firstThat test l))
+
+-- each exactly where the other
+pub record Exactly (A B : Type 0) : Type 0 where
+  pub only : A → B
+  pub when : B → A

@@ -1,6 +1,7 @@
--- Lists of ids as bags: how often each stands in one. Ids are compared for equality and never ordered.
-use Prim.Native.Nat.{ℕ, _+_}
-use mathlib.Core.List.{List, [], _∷_}
+-- docs/RULES.md, 7.2 to 7.4: which ids become ready, and which is next. Lists of ids are bags; ids are compared for equality alone.
+use Prim.Native.Nat.{ℕ, _+_, _≤_, _<_}
+use mathlib.Core.Path.{_≡_}
+use mathlib.Core.List.{List, [], _∷_, _++_}
 use mathlib.Core.Bool.{Bool}
 use lib.Dec.{eqb, ltb}
 use Rattle.lists.specs.Lists.{pick}
@@ -37,3 +38,11 @@ leads key x best = ltb (key x) (key best)
 unfoldable pub least : (ℕ → ℕ) → ℕ → List ℕ → ℕ
 least key best [] = best
 least key best (x ∷ l) = least key (pick (leads key x best) x best) l
+
+-- x is of least key, and the first of those
+pub record FirstLeast (key : ℕ → ℕ) (l : List ℕ) (x : ℕ) : Type 0 where
+  pub front : List ℕ
+  pub back : List ℕ
+  pub split : l ≡ front ++ (x ∷ back)
+  pub above : (y : ℕ) → 0 < count y front → key x < key y
+  pub least : (y : ℕ) → 0 < count y back → key x ≤ key y

@@ -1,13 +1,13 @@
--- Paper 01, "Counted by hand": the ten cases marked P, on the abstract session, by one claim over a list of them; and "Several at once", for link and pack.
+-- docs/RULES.md, section 9: the ten cases marked P and one more, on the abstract session, by one claim over a list of them; and 6.1, for link and pack.
 use Prim.Native.Nat.{ℕ}
 use mathlib.Core.List.{List, [], _∷_, _++_}
 use mathlib.Core.Bool.{Bool, true, false, _&&_}
 use lib.Dec.{eqb}
 use Rattle.lists.specs.Lists.{sameList}
-use Rattle.answer.specs.Number.{number, noOverflow}
+use Rattle.answer.specs.Number.{noOverflow}
 use Rattle.answer.specs.declared.tally.Tally.{Tally}
 use Rattle.model.specs.Table.{overflow}
-use Rattle.model.specs.Judge.{Limits, Verdict, accepted, refused, judgeLink, judgePack}
+use Rattle.model.specs.Judge.{Limits, Verdict, judgeLink, judgePack}
 use Rattle.model.specs.Session.{Needs, Session, started, tallyOf, SessionCall, startCall, openCall, putCall, linkCall, closeCall, dropCall, tallyCall, step, pack, Call, sessionCall, packCall, afterCall}
 
 -- from a fresh session: the number that each call tells, the id of each close, the four counts at the end, and all tables
@@ -190,13 +190,18 @@ cases =
       counts = 0 ∷ 0 ∷ 0 ∷ 0 ∷ [];
       table = [];
     }
+    -- an all-zero child: a field left 0 would show it too, from the table's first byte
+    ∷ record {
+      limits = limitsOf 8 8 64;
+      calls = leaf (0x00 ∷ 0x00 ∷ []) ++ (opens ∷ links 2 0 ∷ closes ∷ packCall 1 64 0 ∷ []);
+      numbers = 0 ∷ 0 ∷ 0 ∷ 0 ∷ 0 ∷ 0 ∷ 0 ∷ [];
+      ids = 0 ∷ 1 ∷ [];
+      counts = 4 ∷ 1 ∷ 2 ∷ 0 ∷ [];
+      table = 0x00 ∷ 0x02 ∷ 0x00 ∷ 0x00 ∷ [];
+    }
     ∷ []
 
 -- ---- several refusals at once, of a link and of a pack: in each line those of all the lines below it apply too
-
-abbrev pub numberOf : Verdict → ℕ
-numberOf accepted = 0
-numberOf (refused why) = number why
 
 -- one closed object, and `depth` open ones
 abbrev holding : ℕ → Tally

@@ -1,4 +1,4 @@
--- Paper 01, "The two orders": the weight of a link, the least sum of weights over all paths from the root, and the orders.
+-- docs/RULES.md, 7.3 and 7.4: the weight of a link, the least sum of weights over all paths from the root, and the orders.
 use Prim.Native.Nat.{ℕ, suc, _+_, min, _≤_}
 use mathlib.Core.Path.{_≡_}
 use mathlib.Core.List.{List, [], _∷_}

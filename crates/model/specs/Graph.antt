@@ -1,4 +1,4 @@
--- Paper 01, "The two orders": what an order knows of the objects, and which of them a root reaches.
+-- docs/RULES.md, 7.1: what an order knows of the objects, and which of them a root reaches.
 use Prim.Native.Nat.{ℕ, zero, suc, _≤_, _<_}
 use mathlib.Core.Path.{_≡_}
 use mathlib.Core.List.{List, [], _∷_, _++_}

@@ -1,14 +1,14 @@
--- Paper 01, "The history of demand 3": what the arguments of the calls alone say the session holds. It is told no memory and no answer.
-use Prim.Native.Nat.{ℕ, _+_}
+-- docs/RULES.md, section 8: what the arguments of the calls alone say the session holds. It is told no memory and no answer.
+use Prim.Native.Nat.{ℕ, _+_, _<_}
 use mathlib.Core.Path.{_≡_}
-use mathlib.Core.List.{List, [], _∷_, _++_}
+use mathlib.Core.List.{List, [], _∷_, _++_, map}
 use mathlib.Core.Bool.{true}
 use lib.ListN.{length, replicate}
 use lib.Dec.{leb, ltb}
 use Rattle.lists.specs.Lists.{pick, total, firstThat}
 use Rattle.answer.specs.Number.{noTally}
 use Rattle.answer.specs.declared.tally.Tally.{Tally}
-use Rattle.model.specs.Reading.{Reading, bytes, field, readingSize, fieldCount, readingAt, sameReading, Shows, below, different}
+use Rattle.model.specs.Reading.{Reading, bytes, field, readingSize, fieldCount, readingAt, readObject, readings, sameReading, Shows, below, different}
 use Rattle.model.specs.Judge.{Limits, Verdict, accepted, refused, judgeStart, judgeOpen, judgePut, judgeLink, judgeClose, judgeDrop, judgeTally}
 use Rattle.model.specs.Told.{Told, doneClose, refusal}
 use Rattle.model.specs.Session.{Needs, Session, SessionCall, startCall, openCall, putCall, linkCall, closeCall, dropCall, tallyCall, Call, sessionCall, packCall, step, PackLeft, pack, afterCall}
@@ -19,11 +19,19 @@ pub record History : Type 0 where
   pub opens : List Reading
   pub closed : List Reading
 
+-- what the objects of a session read as
+abbrev pub historyOf : Session → History
+historyOf s = record { limits = s .limits; opens = map (readObject (readings (s .closed))) (s .opens); closed = readings (s .closed) }
+
+-- the sizes of all objects, open and closed
+abbrev pub sum : History → ℕ
+sum h = total readingSize (h .opens) + total readingSize (h .closed)
+
 -- the sum, and the other counts
 abbrev pub counts : History → Tally
 counts h =
     record {
-      bytes = total readingSize (h .opens) + total readingSize (h .closed);
+      bytes = sum h;
       links = total fieldCount (h .opens) + total fieldCount (h .closed);
       objects = length (h .closed);
       depth = length (h .opens);
@@ -105,6 +113,27 @@ unfoldable pub after : Needs → Call → History → History
 after n (sessionCall c) h = next (judged n c h) (accept c h) h
 after n (packCall id out work) h = h
 
+-- several calls, one after the other
+unfoldable pub afterAll : Needs → List Call → History → History
+afterAll n [] h = h
+afterAll n (c ∷ cs) h = afterAll n cs (after n c h)
+
+-- an accepted start
+unfoldable pub Starts : Needs → Call → History → Type 0
+Starts n (sessionCall (startCall m records)) h = judged n (startCall m records) h ≡ accepted
+Starts n (sessionCall openCall) h = ⊥
+Starts n (sessionCall (putCall vs)) h = ⊥
+Starts n (sessionCall (linkCall w id)) h = ⊥
+Starts n (sessionCall closeCall) h = ⊥
+Starts n (sessionCall dropCall) h = ⊥
+Starts n (sessionCall tallyCall) h = ⊥
+Starts n (packCall id out work) h = ⊥
+
+-- no call of a list is one
+unfoldable pub NoStart : Needs → List Call → History → Type 0
+NoStart n [] h = Unit {0}
+NoStart n (c ∷ cs) h = (Starts n c h → ⊥) × NoStart n cs (after n c h)
+
 -- ---- what the calls must tell
 
 -- only a close tells an id
@@ -134,6 +163,10 @@ pub record Packed (h : History) (root : ℕ) (p : PackLeft) : Type 0 where
 pub record PackAgrees (h : History) (root : ℕ) (p : PackLeft) : Type 0 where
   pub counted : p .told .tally ≡ pick (leb 12 (p .told .number)) noTally (counts h)
   pub packed : p .told .number ≡ 0 → Packed h root p
+
+-- no two readings are the same
+unfoldable pub AllDifferent : List Reading → Type 0
+AllDifferent rs = (i j : ℕ) → i < length rs → j < length rs → readingAt rs i ≡ readingAt rs j → i ≡ j
 
 -- two ids are the same exactly when the objects that they were told for read the same
 pub record Alike (q r : Reading) (j i : ℕ) : Type 0 where

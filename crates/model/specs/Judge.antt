@@ -1,11 +1,12 @@
--- Paper 01, "What each number means": for each call the refusals in the paper's order, of which the first that applies is told.
+-- docs/RULES.md, section 6: for each call the refusals in the order of 6.1, of which the first that applies is told. The ranges are those of 3.1 and 3.2.
 use Prim.Native.Nat.{ℕ, _+_}
+use mathlib.Core.Path.{_≡_}
 use mathlib.Core.List.{List, [], _∷_}
-use mathlib.Core.Bool.{Bool, true, not, _&&_}
+use mathlib.Core.Bool.{Bool, true, false, not, _&&_}
 use lib.Dec.{eqb, leb, ltb}
 use Rattle.lists.specs.Lists.{pick, holds}
+use Rattle.answer.specs.Number.{number}
 use Rattle.answer.specs.declared.tally.Tally.{Tally}
-use Rattle.answer.specs.declared.Overflow.{Overflow}
 use Rattle.answer.specs.declared.Refusal.{Refusal}
 use Rattle.answer.specs.declared.Refusal.the-variants as Refusal
 use Rattle.model.specs.Object.{widthOk}
@@ -37,6 +38,14 @@ pub data Verdict : Type 0 where
   accepted : Verdict
   refused : Refusal → Verdict
 
+abbrev pub numberOf : Verdict → ℕ
+numberOf accepted = 0
+numberOf (refused why) = number why
+
+-- no number is higher
+abbrev pub lastNumber : ℕ
+lastNumber = 13
+
 pub record Test : Type 0 where
   pub applies : Bool
   pub tells : Refusal
@@ -47,6 +56,12 @@ when b r = record { applies = b; tells = r }
 unfoldable pub verdict : List Test → Verdict
 verdict [] = accepted
 verdict (t ∷ ts) = pick (t .applies) (refused (t .tells)) (verdict ts)
+
+-- the number that tests tell: that of the first that applies, or 0 where none does
+pub data Tells : List Test → ℕ → Type 0 where
+  none : {k : ℕ} → k ≡ 0 → Tells [] k
+  this : {t : Test} {ts : List Test} {k : ℕ} → t .applies ≡ true → k ≡ number (t .tells) → Tells (t ∷ ts) k
+  next : {t : Test} {ts : List Test} {k : ℕ} → t .applies ≡ false → Tells ts k → Tells (t ∷ ts) k
 
 -- ---- tests: whether the session is sound, what it holds, what a call brings
 
@@ -85,41 +100,66 @@ abbrev pub overflows : Outcome → List Test
 overflows (placed o) = []
 overflows (overflow u) = when true (Refusal.Overflow u) ∷ []
 
--- ---- the eight calls
+-- ---- the tests of each of the eight calls
 
 abbrev pub inRange : Limits → List Bool
 inRange m = leb 1 (m .objects) ∷ leb (m .objects) mostObjects ∷ leb (m .links) mostLinks ∷ leb 1 (m .bytes) ∷ leb (m .bytes) mostBytes ∷ []
 
 -- `records` words are lent, and `need` are needed
-abbrev pub judgeStart : Limits → ℕ → ℕ → Verdict
-judgeStart m need records = verdict (when (not (holds (inRange m) && leb need records)) Refusal.OutOfRange ∷ [])
+abbrev pub startTests : Limits → ℕ → ℕ → List Test
+startTests m need records = when (not (holds (inRange m) && leb need records)) Refusal.OutOfRange ∷ []
 
-abbrev pub judgeOpen : Bool → Tally → Verdict
-judgeOpen sound t = verdict (unsound sound ∷ when (leb mostOpen (t .depth)) Refusal.DepthFull ∷ [])
+abbrev pub openTests : Bool → Tally → List Test
+openTests sound t = unsound sound ∷ when (leb mostOpen (t .depth)) Refusal.DepthFull ∷ []
 
-abbrev pub judgePut : Bool → Limits → Tally → ℕ → Verdict
-judgePut sound m t n = verdict (unsound sound ∷ nothingOpen t ∷ storeFull m t n ∷ [])
+abbrev pub putTests : Bool → Limits → Tally → ℕ → List Test
+putTests sound m t n = unsound sound ∷ nothingOpen t ∷ storeFull m t n ∷ []
 
-abbrev pub judgeLink : Bool → Limits → Tally → ℕ → ℕ → Verdict
-judgeLink sound m t width id =
-    verdict (unsound sound ∷ nothingOpen t ∷ badWidth width ∷ notClosed t id ∷ linksFull m t ∷ storeFull m t width ∷ [])
+abbrev pub linkTests : Bool → Limits → Tally → ℕ → ℕ → List Test
+linkTests sound m t width id =
+    unsound sound ∷ nothingOpen t ∷ badWidth width ∷ notClosed t id ∷ linksFull m t ∷ storeFull m t width ∷ []
 
 -- `size` is the innermost open object's; `twin` the lowest id of an equal closed one, or the count of closed ones
-abbrev pub judgeClose : Bool → Limits → Tally → ℕ → ℕ → Verdict
-judgeClose sound m t size twin =
-    verdict
-    (unsound sound
+abbrev pub closeTests : Bool → Limits → Tally → ℕ → ℕ → List Test
+closeTests sound m t size twin =
+    unsound sound
     ∷ nothingOpen t
     ∷ when (eqb size 0) Refusal.EmptyObject
     ∷ when (leb (t .objects) twin && leb (m .objects) (t .objects)) Refusal.ObjectsFull
-    ∷ [])
+    ∷ []
+
+abbrev pub dropTests : Bool → Tally → List Test
+dropTests sound t = unsound sound ∷ nothingOpen t ∷ []
+
+abbrev pub tallyTests : Bool → List Test
+tallyTests sound = unsound sound ∷ []
+
+abbrev pub packTests : Bool → Tally → ℕ → ℕ → ℕ → ℕ → ℕ → Outcome → List Test
+packTests sound t id work need out length outcome =
+    unsound sound ∷ workShort work need ∷ objectOpen t ∷ notClosed t id ∷ outputShort out length ∷ overflows outcome
+
+-- ---- the verdict on each
+
+abbrev pub judgeStart : Limits → ℕ → ℕ → Verdict
+judgeStart m need records = verdict (startTests m need records)
+
+abbrev pub judgeOpen : Bool → Tally → Verdict
+judgeOpen sound t = verdict (openTests sound t)
+
+abbrev pub judgePut : Bool → Limits → Tally → ℕ → Verdict
+judgePut sound m t n = verdict (putTests sound m t n)
+
+abbrev pub judgeLink : Bool → Limits → Tally → ℕ → ℕ → Verdict
+judgeLink sound m t width id = verdict (linkTests sound m t width id)
+
+abbrev pub judgeClose : Bool → Limits → Tally → ℕ → ℕ → Verdict
+judgeClose sound m t size twin = verdict (closeTests sound m t size twin)
 
 abbrev pub judgeDrop : Bool → Tally → Verdict
-judgeDrop sound t = verdict (unsound sound ∷ nothingOpen t ∷ [])
+judgeDrop sound t = verdict (dropTests sound t)
 
 abbrev pub judgeTally : Bool → Verdict
-judgeTally sound = verdict (unsound sound ∷ [])
+judgeTally sound = verdict (tallyTests sound)
 
 abbrev pub judgePack : Bool → Tally → ℕ → ℕ → ℕ → ℕ → ℕ → Outcome → Verdict
-judgePack sound t id work need out length outcome =
-    verdict (unsound sound ∷ workShort work need ∷ objectOpen t ∷ notClosed t id ∷ outputShort out length ∷ overflows outcome)
+judgePack sound t id work need out length outcome = verdict (packTests sound t id work need out length outcome)

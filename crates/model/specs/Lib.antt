@@ -5,6 +5,7 @@ pub mod Order
 pub mod Distance
 pub mod Table
 pub mod Reading
+pub mod Laid
 pub mod Judge
 pub mod Told
 pub mod Session

@@ -1,5 +1,4 @@
--- Paper 01, "Pieces, fields and readings": an object (its piece) is a run of bytes with links; each link has an offset field
--- (its link field) among the bytes.
+-- docs/RULES.md, section 2: an object is a run of bytes with links; each link has an offset field among the bytes.
 use Prim.Native.Nat.{ℕ}
 use mathlib.Core.List.{List, [], _∷_, _++_}
 use mathlib.Core.Bool.{Bool, _&&_, _||_}

@@ -1,4 +1,4 @@
--- Paper 01, "The two orders": placing by any key.
+-- docs/RULES.md, 7.2: placing by any key.
 use Prim.Native.Nat.{ℕ, zero, suc}
 use mathlib.Core.List.{List, [], _∷_, _++_}
 use lib.ListN.{length}

@@ -1,4 +1,4 @@
--- Graphs that tell the orders from ones that come near them, by one claim over a list of them.
+-- docs/RULES.md, section 7: graphs that tell the orders from ones that come near them, by one claim over a list of them.
 use Prim.Native.Nat.{ℕ}
 use mathlib.Core.List.{List, [], _∷_}
 use mathlib.Core.Bool.{Bool, true, _&&_}

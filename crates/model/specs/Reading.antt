@@ -1,4 +1,4 @@
--- Paper 01, "Pieces, fields and readings": the reading of an object, and what it is for a table to show one.
+-- docs/RULES.md, 2.6 to 2.8: the reading of an object, and what it is for a table to show one.
 use Prim.Native.Nat.{ℕ, _+_, _≤_, _<_}
 use mathlib.Core.Path.{_≡_}
 use mathlib.Core.List.{List, [], _∷_, _++_}

@@ -1,4 +1,4 @@
--- Paper 01, "What the session holds" and "Steps", on lists: the abstract session and each call on it.
+-- docs/RULES.md, sections 3 and 5, on lists: the abstract session and each call on it.
 use Prim.Native.Nat.{ℕ, _+_}
 use mathlib.Core.List.{List, [], _∷_, _++_}
 use mathlib.Core.Bool.{true}

@@ -1,4 +1,4 @@
--- Paper 01, "The two orders" from "Places" on: places, offsets, what does not fit, the first order that fits, and the table's bytes.
+-- docs/RULES.md, 7.5 to 7.9: places, offsets, what does not fit, the first order that fits, and the table's bytes.
 use Prim.Native.Nat.{ℕ, _+_, _-_, _≤_}
 use mathlib.Core.Path.{_≡_}
 use mathlib.Core.List.{List, [], _∷_, _++_}

@@ -1,4 +1,4 @@
--- Paper 01, below the table of numbers: all that a call tells. What a call does not have is 0.
+-- docs/RULES.md, 6.3: all that a call tells. What a call does not have is 0.
 use Prim.Native.Nat.{ℕ}
 use Rattle.answer.specs.Number.{number, named, beside, noOverflow}
 use Rattle.answer.specs.declared.tally.Tally.{Tally}

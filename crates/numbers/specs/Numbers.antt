@@ -1,19 +1,14 @@
--- The ten numbers of an answer.
+-- docs/RULES.md, section 6: an answer as ten numbers.
 use Rattle.model.specs.Told.{Told}
 use Rattle.numbers.specs.declared.Numbers.{Numbers}
 
--- paper 01's number and values, in the order of the struct
-abbrev pub numbers : Told → Numbers
-numbers t =
+-- what they tell: the number and the values, in the order of the struct
+abbrev pub toldIn : Numbers → Told
+toldIn n =
     record {
-      number = t .number;
-      bytes = t .tally .bytes;
-      links = t .tally .links;
-      objects = t .tally .objects;
-      depth = t .tally .depth;
-      id = t .id;
-      length = t .length;
-      parent = t .overflow .parent .0;
-      field = t .overflow .field;
-      needed = t .overflow .needed;
+      number = n .number;
+      tally = record { bytes = n .bytes; links = n .links; objects = n .objects; depth = n .depth };
+      id = n .id;
+      length = n .length;
+      overflow = record { parent = record { 0 = n .parent }; field = n .field; needed = n .needed };
     }

@@ -1,4 +1,4 @@
--- One order tried: the order, its places, and the first link that does not fit.
+-- docs/RULES.md, section 7, in the work memory: one order tried: the order, its places, and the first link that does not fit.
 use Prim.Native.Nat.{ℕ, _+_, _*_, _≤_, _<_}
 use mathlib.Core.Path.{_≡_}
 use mathlib.Core.List.{List, [], _∷_}

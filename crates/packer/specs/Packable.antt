@@ -1,4 +1,4 @@
--- What the code of pack asks and promises between 4 and the clearing of the work memory.
+-- docs/RULES.md, 5.8: what the code of pack asks and promises between 4 and the clearing of the work memory.
 use Prim.Native.Nat.{ℕ, _≤_, _<_}
 use mathlib.Core.Path.{_≡_}
 use mathlib.Core.List.{List, _∷_}

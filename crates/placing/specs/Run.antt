@@ -1,4 +1,4 @@
--- Placing: the ready node of least key, the longest ready of equal ones, one after the other.
+-- docs/RULES.md, 7.2 to 7.4, in the work memory: the ready node of least key, the longest ready of equal ones, one after the other.
 use Prim.Native.Nat.{ℕ, zero, suc, _+_, _*_, _≤_, _<_, max}
 use mathlib.Core.Path.{_≡_}
 use mathlib.Core.List.{List, [], _∷_, _++_}

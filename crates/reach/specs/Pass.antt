@@ -1,4 +1,4 @@
--- One pass from the root down: reach, least distances, incoming links.
+-- docs/RULES.md, 7.1 and 7.4, in the work memory: one pass from the root down: reach, least distances, incoming links.
 use Prim.Native.Nat.{ℕ, zero, suc, _+_, _*_, _≤_, _<_, min}
 use mathlib.Core.Path.{_≡_}
 use mathlib.Core.List.{List, [], _∷_}

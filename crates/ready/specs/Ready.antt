@@ -1,4 +1,4 @@
--- The ready nodes: the least of them, one taken out, and one more when its last parent is placed.
+-- docs/RULES.md, 7.2, in the work memory: the ready nodes: the least of them, one taken out, and one more when its last parent is placed.
 use Prim.Native.Nat.{ℕ, _+_, _-_, _*_, _≤_, _<_}
 use mathlib.Core.Path.{_≡_}
 use mathlib.Core.List.{List, [], _∷_, _++_}

@@ -1,4 +1,4 @@
--- What sealing asks: an open object, whose bytes and links begin at `from` and `first`, and room for one more closed one.
+-- docs/RULES.md, 5.5: what sealing asks: an open object, whose bytes and links begin at `from` and `first`, and room for one more closed one.
 use mathlib.Core.Path.{_≡_}
 use Prim.Native.Nat.{ℕ, _≤_, _<_}
 use mathlib.Core.List.{List}

@@ -1,4 +1,4 @@
--- Objects as runs of the two stores, and what the look for an equal one leans on.
+-- docs/RULES.md, 2.5: objects as runs of the two stores, and what the look for an equal one leans on.
 use mathlib.Core.Path.{_≡_}
 use mathlib.Core.Bool.{true}
 use Prim.Native.Nat.{ℕ, _+_, _-_, _*_, _≤_}
@@ -31,6 +31,7 @@ pub record Tested (b w : List ℕ) (objects : ℕ) : Type 0 where
   pub objectsIs : objects ≡ objectLimit w
   pub room : 135 + objects * 2 ≤ length w
   pub within : closedCount w ≤ objects
+  pub few : objects ≤ 4096
 
 -- in which so many are closed, and the innermost open one has these runs
 pub record Ground (b w : List ℕ) (objects closed : ℕ) (own : Runs) : Type 0 where

@@ -1,3 +1,3 @@
 pub mod Steps
-pub mod Runs
 pub mod Pack
+pub mod Runs

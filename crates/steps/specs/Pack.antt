@@ -1,4 +1,4 @@
--- Paper 01, pack: a function of the two stores, b (bytes) and w (record words), the output and the work memory: the answer, the output
+-- docs/RULES.md, 5.8 and 6.5: pack as a function of the two stores, b (bytes) and w (record words), the output and the work memory: the answer, the output
 -- and the work memory after it. The stores stand.
 use Prim.Native.Nat.{ℕ}
 use mathlib.Core.List.{List}

@@ -1,16 +1,16 @@
--- The calls with their arguments, on the two stores: what each tells and leaves, and the abstract session that sound stores hold.
+-- docs/RULES.md, section 5: the calls with their arguments, on lent memory: what each tells and leaves, and the abstract session that sound stores hold.
 use Prim.Native.Nat.{ℕ}
 use mathlib.Core.Path.{_≡_}
-use mathlib.Core.List.{List}
+use mathlib.Core.List.{List, []}
 use mathlib.Core.Bool.{true}
-use lib.ListN.{length}
 use Rattle.model.specs.Judge.{Limits}
-use Rattle.model.specs.Told.{Told, toldBy, toldByClose}
+use Rattle.model.specs.Told.{Told, toldBy, toldByClose, toldByPack}
 use Rattle.model.specs.Session.{Needs, Session, SessionCall, startCall, openCall, putCall, linkCall, closeCall, dropCall, tallyCall}
 use Rattle.layout.specs.Words.{need}
 use Rattle.layout.specs.Sound.{sound}
 use Rattle.layout.specs.Decode.{decode}
 use Rattle.steps.specs.Steps.{Out, CloseOut, startStep, openStep, putStep, linkStep, closeStep, dropStep, tallyStep}
+use Rattle.steps.specs.Pack.{PackOut, packStep}
 
 -- ---- calls on the two stores
 
@@ -27,16 +27,22 @@ pub record Stores : Type 0 where
   pub bytes : List ℕ
   pub words : List ℕ
 
+abbrev pub stores : List ℕ → List ℕ → Stores
+stores b w = record { bytes = b; words = w }
+
 -- what a call tells, and what it leaves in the stores
 pub record Left : Type 0 where
   pub told : Told
   pub stores : Stores
 
+abbrev pub left : Told → List ℕ → List ℕ → Left
+left t b w = record { told = t; stores = stores b w }
+
 abbrev pub leftBy : Out → Left
-leftBy o = record { told = toldBy (o .answer); stores = record { bytes = o .bytes; words = o .words } }
+leftBy o = left (toldBy (o .answer)) (o .bytes) (o .words)
 
 abbrev pub leftByClose : CloseOut → Left
-leftByClose o = record { told = toldByClose (o .answer); stores = record { bytes = o .bytes; words = o .words } }
+leftByClose o = left (toldByClose (o .answer)) (o .bytes) (o .words)
 
 unfoldable pub stepOn : StoreCall → Stores → Left
 stepOn (start objects links) s = leftBy (startStep objects links (s .bytes) (s .words))
@@ -47,16 +53,44 @@ stepOn close s = leftByClose (closeStep (s .bytes) (s .words))
 stepOn drop s = leftBy (dropStep (s .bytes) (s .words))
 stepOn tally s = leftBy (tallyStep (s .bytes) (s .words))
 
--- ---- the same calls on the abstract session: of the two stores only the lengths
+-- ---- all eight: a pack with its root and with what the output and the work memory hold
 
-unfoldable pub asCall : Stores → StoreCall → SessionCall
-asCall s (start objects links) = startCall (record { objects = objects; links = links; bytes = length (s .bytes) }) (length (s .words))
-asCall s open' = openCall
-asCall s (put vs) = putCall vs
-asCall s (link width id) = linkCall width id
-asCall s close = closeCall
-asCall s drop = dropCall
-asCall s tally = tallyCall
+pub data LentCall : Type 0 where
+  onStores : StoreCall → LentCall
+  pack : ℕ → List ℕ → List ℕ → LentCall
+
+-- what a call tells, and what it leaves in all lent memory
+pub record LentLeft : Type 0 where
+  pub told : Told
+  pub stores : Stores
+  pub out : List ℕ
+  pub work : List ℕ
+
+-- of a pack, which leaves the stores as they were
+abbrev pub packLeft : Told → Stores → List ℕ → List ℕ → LentLeft
+packLeft t s out work = record { told = t; stores = s; out = out; work = work }
+
+abbrev pub leftByPack : Stores → PackOut → LentLeft
+leftByPack s o = packLeft (toldByPack (o .answer)) s (o .out) (o .work)
+
+-- a call that is lent no more than the stores
+abbrev pub storesLeft : Left → LentLeft
+storesLeft l = record { told = l .told; stores = l .stores; out = []; work = [] }
+
+unfoldable pub lentStep : LentCall → Stores → LentLeft
+lentStep (onStores c) s = storesLeft (stepOn c s)
+lentStep (pack id out work) s = leftByPack s (packStep id (s .bytes) (s .words) out work)
+
+-- ---- the same calls on the abstract session: of the two stores only how many bytes and words they have
+
+unfoldable pub asCall : ℕ → ℕ → StoreCall → SessionCall
+asCall bytes words (start objects links) = startCall (record { objects = objects; links = links; bytes = bytes }) words
+asCall bytes words open' = openCall
+asCall bytes words (put vs) = putCall vs
+asCall bytes words (link width id) = linkCall width id
+asCall bytes words close = closeCall
+asCall bytes words drop = dropCall
+asCall bytes words tally = tallyCall
 
 -- the record store's need is the layout's; the work memory's plays no part in these calls
 abbrev pub needsWith : (Limits → ℕ) → Needs

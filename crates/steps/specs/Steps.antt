@@ -1,4 +1,4 @@
--- Paper 01, "Steps": each call as a function of the two stores, b (bytes) and w (record words): the answer, and both stores after it.
+-- docs/RULES.md, sections 5 and 6: each call as a function of the two stores, b (bytes) and w (record words): the answer, and both stores after it.
 use Prim.Native.Nat.{ℕ, _+_, _-_, _*_}
 use mathlib.Core.List.{List}
 use lib.ListN.{length, getD, set, replicate}

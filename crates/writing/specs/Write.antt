@@ -1,4 +1,4 @@
--- The table written from the order and the places in the work memory.
+-- docs/RULES.md, 6.5 and 7.6, on lent memory: the table written from the order and the places in the work memory.
 use Prim.Native.Nat.{ℕ, _+_, _*_, _≤_, _<_}
 use mathlib.Core.Path.{_≡_}
 use mathlib.Core.List.{List}
