@@ -7,7 +7,7 @@ pub use refusals::nowhere;
 pub use refusals::number_of;
 pub use tally::Tally;
 
-// A closed object, numbered from 0 in the order of closing (paper 01: a piece id).
+// A closed object, numbered from 0 in the order of closing.
 pub struct ObjectId(pub u32);
 
 // A link whose offset does not fit its field: the object that has the field, the field's place in it, and the offset needed.

@@ -5,7 +5,7 @@ use crate::Refusal;
 ghost use mathlib.Core.Path.{_≡_};
 ghost use Rattle.answer.specs.Number.{number, named, noOverflow};
 
-// Paper 01's number of a refusal.
+// A refusal's number (docs/RULES.md, section 6).
 pub fn number_of(why: Refusal) -> u64
     ensures { λ r. ⌜ r ≡ number why ⌝ }
 {

@@ -4,9 +4,8 @@ use numbers::Numbers;
 use numbers::tell;
 use numbers::tell_close;
 ghost use mathlib.Core.Path.{_≡_};
-ghost use Rattle.steps.specs.Steps.{startStep, openStep, putStep, linkStep, closeStep, dropStep, tallyStep};
-ghost use Rattle.steps.specs.Runs.{leftBy, leftByClose};
-ghost use Rattle.capi.specs.Given.{given, givenBy};
+ghost use Rattle.steps.specs.Runs.{start, open', put, link, close, drop, tally, stores, left, stepOn};
+ghost use Rattle.numbers.specs.Numbers.{toldIn};
 
 #[no_mangle]
 pub extern "C" fn scoterlime_start(
@@ -15,21 +14,21 @@ pub extern "C" fn scoterlime_start(
     objects: u32,
     links: u32,
 ) -> Numbers
-    ensures { λ r. ⌜ given r (now (store .exit)) (now (records .exit)) ≡ givenBy (leftBy (startStep objects links (now (store .entry)) (now (records .entry)))) ⌝ }
+    ensures { λ r. ⌜ left (toldIn r) (now (store .exit)) (now (records .exit)) ≡ stepOn (start objects links) (stores (now (store .entry)) (now (records .entry))) ⌝ }
 {
     tell(session::start(store, records, objects, links))
 }
 
 #[no_mangle]
 pub extern "C" fn scoterlime_open(store: &mut [u8], records: &mut [u32]) -> Numbers
-    ensures { λ r. ⌜ given r (now (store .exit)) (now (records .exit)) ≡ givenBy (leftBy (openStep (now (store .entry)) (now (records .entry)))) ⌝ }
+    ensures { λ r. ⌜ left (toldIn r) (now (store .exit)) (now (records .exit)) ≡ stepOn open' (stores (now (store .entry)) (now (records .entry))) ⌝ }
 {
     tell(session::open(store, records))
 }
 
 #[no_mangle]
 pub extern "C" fn scoterlime_put(store: &mut [u8], records: &mut [u32], bytes: &[u8]) -> Numbers
-    ensures { λ r. ⌜ given r (now (store .exit)) (now (records .exit)) ≡ givenBy (leftBy (putStep (now (bytes .entry)) (now (store .entry)) (now (records .entry)))) ⌝ }
+    ensures { λ r. ⌜ left (toldIn r) (now (store .exit)) (now (records .exit)) ≡ stepOn (put (now (bytes .entry))) (stores (now (store .entry)) (now (records .entry))) ⌝ }
 {
     tell(session::put(store, records, bytes))
 }
@@ -41,28 +40,28 @@ pub extern "C" fn scoterlime_link(
     width: u32,
     id: u32,
 ) -> Numbers
-    ensures { λ r. ⌜ given r (now (store .exit)) (now (records .exit)) ≡ givenBy (leftBy (linkStep width id (now (store .entry)) (now (records .entry)))) ⌝ }
+    ensures { λ r. ⌜ left (toldIn r) (now (store .exit)) (now (records .exit)) ≡ stepOn (link width id) (stores (now (store .entry)) (now (records .entry))) ⌝ }
 {
     tell(session::link(store, records, width, ObjectId(id)))
 }
 
 #[no_mangle]
 pub extern "C" fn scoterlime_close(store: &mut [u8], records: &mut [u32]) -> Numbers
-    ensures { λ r. ⌜ given r (now (store .exit)) (now (records .exit)) ≡ givenBy (leftByClose (closeStep (now (store .entry)) (now (records .entry)))) ⌝ }
+    ensures { λ r. ⌜ left (toldIn r) (now (store .exit)) (now (records .exit)) ≡ stepOn close (stores (now (store .entry)) (now (records .entry))) ⌝ }
 {
     tell_close(session::close(store, records))
 }
 
 #[no_mangle]
 pub extern "C" fn scoterlime_drop(store: &mut [u8], records: &mut [u32]) -> Numbers
-    ensures { λ r. ⌜ given r (now (store .exit)) (now (records .exit)) ≡ givenBy (leftBy (dropStep (now (store .entry)) (now (records .entry)))) ⌝ }
+    ensures { λ r. ⌜ left (toldIn r) (now (store .exit)) (now (records .exit)) ≡ stepOn drop (stores (now (store .entry)) (now (records .entry))) ⌝ }
 {
     tell(session::drop(store, records))
 }
 
 #[no_mangle]
 pub extern "C" fn scoterlime_tally(store: &[u8], records: &[u32]) -> Numbers
-    ensures { λ r. ⌜ given r (now (store .entry)) (now (records .entry)) ≡ givenBy (leftBy (tallyStep (now (store .entry)) (now (records .entry)))) ⌝ }
+    ensures { λ r. ⌜ left (toldIn r) (now (store .entry)) (now (records .entry)) ≡ stepOn tally (stores (now (store .entry)) (now (records .entry))) ⌝ }
 {
     tell(session::tally(store, records))
 }

@@ -3,8 +3,8 @@ use answer::ObjectId;
 use numbers::Numbers;
 use numbers::tell_pack;
 ghost use mathlib.Core.Path.{_≡_};
-ghost use Rattle.steps.specs.Pack.{packStep};
-ghost use Rattle.capi.specs.Given.{packGiven, packGivenBy};
+ghost use Rattle.steps.specs.Runs.{pack, stores, packLeft, lentStep};
+ghost use Rattle.numbers.specs.Numbers.{toldIn};
 
 #[no_mangle]
 pub extern "C" fn scoterlime_pack(
@@ -14,7 +14,7 @@ pub extern "C" fn scoterlime_pack(
     out: &mut [u8],
     work: &mut [u64],
 ) -> Numbers
-    ensures { λ r. ⌜ packGiven r (now (out .exit)) (now (work .exit)) ≡ packGivenBy (packStep id (now (store .entry)) (now (records .entry)) (now (out .entry)) (now (work .entry))) ⌝ }
+    ensures { λ r. ⌜ packLeft (toldIn r) (stores (now (store .entry)) (now (records .entry))) (now (out .exit)) (now (work .exit)) ≡ lentStep (pack id (now (out .entry)) (now (work .entry))) (stores (now (store .entry)) (now (records .entry))) ⌝ }
 {
     tell_pack(packer::pack(store, records, ObjectId(id), out, work))
 }

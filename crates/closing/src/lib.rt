@@ -1,6 +1,5 @@
 // The innermost open object closed: it gets the next id, or the id of the closed object that it equals.
 use answer::Closing;
-use answer::ObjectId;
 use answer::Refusal;
 use counting::tally_of;
 use dropping::forget;
@@ -31,17 +30,14 @@ pub fn close_sound(store: &mut [u8], records: &mut [u32]) -> Closing
         return Closing::Refused(Refusal::EmptyObject, t);
     }
     let first = word(records, LINK_ENDS_AT + (d - 1));
-    let i = find(store, records, s);
-    if i < s.closed {
+    let id = find(store, records, s);
+    if (id.0 as usize) < s.closed {
         forget(store, records, s, from);
-        return Closing::Done(
-            ObjectId(i as u32),
-            t.discard(top - from, s.link_top - first),
-        );
+        return Closing::Done(id, t.discard(top - from, s.link_top - first));
     }
     if s.objects <= s.closed {
         return Closing::Refused(Refusal::ObjectsFull, t);
     }
     seal(store, records, s, from, first);
-    Closing::Done(ObjectId(s.closed as u32), t.add())
+    Closing::Done(id, t.add())
 }

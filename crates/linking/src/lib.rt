@@ -20,14 +20,15 @@ ghost use Rattle.layout.specs.Known.{Read};
 ghost use Rattle.steps.specs.Steps.{outcome, linkStep, linkWordsOf};
 
 // The field's zero bytes stand there already: only words change.
-fn append_link(store: &[u8], records: &mut [u32], s: State, width: usize, child: usize)
-    requires { ⌜ Read (now store) (now records) s × (0 < s .depth) × (s .«link_top» < s .«link_low») × (width ≤ 4) × (child < 4096) ⌝ }
-    ensures { λ _. ⌜ now (records .exit) ≡ linkWordsOf width child (now (records .entry)) ⌝ }
+fn append_link(store: &[u8], records: &mut [u32], s: State, width: usize, id: ObjectId)
+    requires { ⌜ Read (now store) (now records) s × (0 < s .depth) × (s .«link_top» < s .«link_low») × (width ≤ 4) ⌝ }
+    ensures { λ _. ⌜ now (records .exit) ≡ linkWordsOf width (id .0) (now (records .entry)) ⌝ }
 {
     let d = s.depth;
     let top = s.top;
     let at = top - word(records, ENDS_AT + (d - 1));
     let i = LINKS_AT + s.objects * 2 + s.link_top * LINK_WORDS;
+    let child = id.0 as usize;
     store_word(records, i, at);
     store_word(records, i + 1, width);
     store_word(records, i + 2, child);
@@ -42,14 +43,13 @@ pub fn link_sound(store: &[u8], records: &mut [u32], width: u32, id: ObjectId) -
     let s = read(store, records);
     let t = tally_of(store.len(), s);
     let k = width as usize;
-    let child = id.0 as usize;
     if s.depth == 0 {
         return Answer::Refused(Refusal::NothingOpen, t);
     }
     if !width_ok(k) {
         return Answer::Refused(Refusal::BadWidth, t);
     }
-    if t.objects <= child {
+    if t.objects <= id.0 as usize {
         return Answer::Refused(Refusal::NotClosed, t);
     }
     if s.links <= t.links {
@@ -58,6 +58,6 @@ pub fn link_sound(store: &[u8], records: &mut [u32], width: u32, id: ObjectId) -
     if store.len() - t.bytes < k {
         return Answer::Refused(Refusal::StoreFull, t);
     }
-    append_link(store, records, s, k, child);
+    append_link(store, records, s, k, id);
     Answer::Done(t.grow(k, 1))
 }

@@ -1,1 +1,1 @@
-// Paper 01 as definitions, on lists and numbers alone (specs/), and the theorems about them (proofs/). No code.
+// The rules (docs/RULES.md) as definitions, on lists and numbers alone (specs/), and the theorems about them (proofs/). No code.

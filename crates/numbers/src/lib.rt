@@ -10,7 +10,7 @@ use answer::nowhere;
 use answer::number_of;
 ghost use mathlib.Core.Path.{_≡_};
 ghost use Rattle.model.specs.Told.{refusedTold, toldBy, toldByClose, toldByPack};
-ghost use Rattle.numbers.specs.Numbers.{numbers};
+ghost use Rattle.numbers.specs.Numbers.{toldIn};
 
 #[repr(C)]
 pub struct Numbers {
@@ -27,7 +27,7 @@ pub struct Numbers {
 }
 
 fn ten(number: u64, t: Tally, id: u64, length: u64, o: Overflow) -> Numbers
-    ensures { λ r. ⌜ r ≡ numbers (record { number = number; tally = t; id = id; length = length; overflow = o }) ⌝ }
+    ensures { λ r. ⌜ toldIn r ≡ record { number = number; tally = t; id = id; length = length; overflow = o } ⌝ }
 {
     let parent = o.parent;
     Numbers {
@@ -45,13 +45,13 @@ fn ten(number: u64, t: Tally, id: u64, length: u64, o: Overflow) -> Numbers
 }
 
 fn tell_refused(why: Refusal, t: Tally) -> Numbers
-    ensures { λ r. ⌜ r ≡ numbers (refusedTold why t) ⌝ }
+    ensures { λ r. ⌜ toldIn r ≡ refusedTold why t ⌝ }
 {
     ten(number_of(why), t, 0, 0, named_by(why))
 }
 
 pub fn tell(a: Answer) -> Numbers
-    ensures { λ r. ⌜ r ≡ numbers (toldBy a) ⌝ }
+    ensures { λ r. ⌜ toldIn r ≡ toldBy a ⌝ }
 {
     match a {
         Answer::Done(t) => ten(0, t, 0, 0, nowhere()),
@@ -60,7 +60,7 @@ pub fn tell(a: Answer) -> Numbers
 }
 
 pub fn tell_close(a: Closing) -> Numbers
-    ensures { λ r. ⌜ r ≡ numbers (toldByClose a) ⌝ }
+    ensures { λ r. ⌜ toldIn r ≡ toldByClose a ⌝ }
 {
     match a {
         Closing::Done(id, t) => ten(0, t, id.0 as u64, 0, nowhere()),
@@ -69,7 +69,7 @@ pub fn tell_close(a: Closing) -> Numbers
 }
 
 pub fn tell_pack(a: Packing) -> Numbers
-    ensures { λ r. ⌜ r ≡ numbers (toldByPack a) ⌝ }
+    ensures { λ r. ⌜ toldIn r ≡ toldByPack a ⌝ }
 {
     match a {
         Packing::Done(n, t) => ten(0, t, 0, n as u64, nowhere()),

@@ -21,7 +21,9 @@ ghost use mathlib.Core.Path.{_≡_};
 ghost use mathlib.Core.Bool.{true};
 ghost use Rattle.layout.specs.Sound.{sound};
 ghost use Rattle.packer.specs.Packable.{Packable, Packed};
+ghost use Rattle.model.specs.Told.{toldByPack};
 ghost use Rattle.steps.specs.Pack.{packed, packStep};
+ghost use Rattle.steps.specs.Runs.{pack, stores, packLeft, lentStep};
 
 // The graph copied and its table laid, where the output has room for it. The needed work memory is left as it comes.
 fn pack_graph(
@@ -29,14 +31,15 @@ fn pack_graph(
     records: &[u32],
     s: State,
     t: Tally,
-    root: usize,
+    id: ObjectId,
     out: &mut [u8],
     work: &mut [u64],
 ) -> Packing
-    requires { ⌜ Packable (now store) (now records) s t root (now work) ⌝ }
-    ensures { λ r. ⌜ Packed (now (store .entry)) (now (records .entry)) root r (now (out .entry)) (now (out .exit)) (now (work .entry)) (now (work .exit)) ⌝ }
+    requires { ⌜ Packable (now store) (now records) s t (id .0) (now work) ⌝ }
+    ensures { λ r. ⌜ Packed (now (store .entry)) (now (records .entry)) (id .0) r (now (out .entry)) (now (out .exit)) (now (work .entry)) (now (work .exit)) ⌝ }
 {
     copy_graph(store, records, s, work);
+    let root = id.0 as usize;
     let p = s.objects;
     let g = p * 3 + s.links * LINK_WORDS;
     let size = table_length(work, p, g, s.closed, root) as usize;
@@ -62,17 +65,16 @@ pub fn pack_sound(
 {
     let s = read(store, records);
     let t = tally_of(store.len(), s);
-    let root = id.0 as usize;
     if work.len() < work_need(s.objects as u32, s.links as u32) {
         return Packing::Refused(Refusal::OutOfRange, Tally::none());
     }
     if 0 < t.depth {
         return Packing::Refused(Refusal::ObjectOpen, t);
     }
-    if t.objects <= root {
+    if t.objects <= id.0 as usize {
         return Packing::Refused(Refusal::NotClosed, t);
     }
-    let answer = pack_graph(store, records, s, t, root, out, work);
+    let answer = pack_graph(store, records, s, t, id, out, work);
     clear(work, s.objects, s.objects * 3 + s.links * LINK_WORDS);
     answer
 }
@@ -86,7 +88,7 @@ pub fn pack(
     out: &mut [u8],
     work: &mut [u64],
 ) -> Packing
-    ensures { λ r. ⌜ packed r (now (out .exit)) (now (work .exit)) ≡ packStep (id .0) (now (store .entry)) (now (records .entry)) (now (out .entry)) (now (work .entry)) ⌝ }
+    ensures { λ r. ⌜ packLeft (toldByPack r) (stores (now (store .entry)) (now (records .entry))) (now (out .exit)) (now (work .exit)) ≡ lentStep (pack (id .0) (now (out .entry)) (now (work .entry))) (stores (now (store .entry)) (now (records .entry))) ⌝ }
 {
     if is_sound(store, records) {
         return pack_sound(store, records, id, out, work);

@@ -1,4 +1,5 @@
 // The look for an equal closed object.
+use answer::ObjectId;
 use fields::Span;
 use fields::closed_span;
 use fields::open_span;
@@ -32,14 +33,14 @@ fn runs_of(objects: usize, s: Span) -> Runs
     }
 }
 
-fn seek(store: &[u8], records: &[u32], objects: usize, closed: usize, own: Runs) -> usize
+fn seek(store: &[u8], records: &[u32], objects: usize, closed: usize, own: Runs) -> ObjectId
     requires { ⌜ Ground (now store) (now records) objects closed own ⌝ }
-    ensures { λ r. ⌜ r ≡ twinIn (now (store .entry)) (now (records .entry)) ⌝ }
+    ensures { λ r. ⌜ r .0 ≡ twinIn (now (store .entry)) (now (records .entry)) ⌝ }
 {
     let mut i = 0;
     'next: loop {
         if closed <= i {
-            break i;
+            break ObjectId(i as u32);
         }
         let id = i;
         i += 1;
@@ -64,14 +65,14 @@ fn seek(store: &[u8], records: &[u32], objects: usize, closed: usize, own: Runs)
             }
             k += 1;
         }
-        break id;
+        break ObjectId(id as u32);
     }
 }
 
-// The lowest closed id whose object equals the innermost open one, or the count of closed objects.
-pub fn find(store: &[u8], records: &[u32], s: State) -> usize
+// The lowest id of a closed object that equals the innermost open one, or the next id.
+pub fn find(store: &[u8], records: &[u32], s: State) -> ObjectId
     requires { ⌜ Read (now store) (now records) s × (0 < openDepth (now records)) ⌝ }
-    ensures { λ r. ⌜ r ≡ twinIn (now (store .entry)) (now (records .entry)) ⌝ }
+    ensures { λ r. ⌜ r .0 ≡ twinIn (now (store .entry)) (now (records .entry)) ⌝ }
 {
     let own = runs_of(s.objects, open_span(store, records, s.depth - 1));
     seek(store, records, s.objects, s.closed, own)

@@ -9,7 +9,8 @@ use answer::Refusal;
 use answer::Tally;
 use soundness::is_sound;
 ghost use mathlib.Core.Path.{_≡_};
-ghost use Rattle.steps.specs.Steps.{outcome, closing, openStep, putStep, linkStep, closeStep, dropStep, tallyStep};
+ghost use Rattle.model.specs.Told.{toldBy, toldByClose};
+ghost use Rattle.steps.specs.Runs.{open', put, link, close, drop, tally, stores, left, stepOn};
 pub use closing::close_sound;
 pub use counting::tally_sound;
 pub use dropping::drop_sound;
@@ -20,7 +21,7 @@ pub use starting::start;
 
 // 12 where the session is not sound, 2 where 64 objects are open.
 pub fn open(store: &[u8], records: &mut [u32]) -> Answer
-    ensures { λ r. ⌜ outcome r (now (store .entry)) (now (records .exit)) ≡ openStep (now (store .entry)) (now (records .entry)) ⌝ }
+    ensures { λ r. ⌜ left (toldBy r) (now (store .entry)) (now (records .exit)) ≡ stepOn open' (stores (now (store .entry)) (now (records .entry))) ⌝ }
 {
     if is_sound(store, records) {
         return open_sound(store, records);
@@ -30,7 +31,7 @@ pub fn open(store: &[u8], records: &mut [u32]) -> Answer
 
 // 12 where the session is not sound, 1 where nothing is open, 6 where the bytes find no room: they are then not read.
 pub fn put(store: &mut [u8], records: &mut [u32], bytes: &[u8]) -> Answer
-    ensures { λ r. ⌜ outcome r (now (store .exit)) (now (records .exit)) ≡ putStep (now (bytes .entry)) (now (store .entry)) (now (records .entry)) ⌝ }
+    ensures { λ r. ⌜ left (toldBy r) (now (store .exit)) (now (records .exit)) ≡ stepOn (put (now (bytes .entry))) (stores (now (store .entry)) (now (records .entry))) ⌝ }
 {
     if is_sound(store, records) {
         return put_sound(store, records, bytes);
@@ -40,7 +41,7 @@ pub fn put(store: &mut [u8], records: &mut [u32], bytes: &[u8]) -> Answer
 
 // 12 where the session is not sound, 1 nothing open, 3 a width that is not 2 or 4, 4 no such closed object, 7 no room for a link, 6 none for its field.
 pub fn link(store: &[u8], records: &mut [u32], width: u32, id: ObjectId) -> Answer
-    ensures { λ r. ⌜ outcome r (now (store .entry)) (now (records .exit)) ≡ linkStep width (id .0) (now (store .entry)) (now (records .entry)) ⌝ }
+    ensures { λ r. ⌜ left (toldBy r) (now (store .entry)) (now (records .exit)) ≡ stepOn (link width (id .0)) (stores (now (store .entry)) (now (records .entry))) ⌝ }
 {
     if is_sound(store, records) {
         return link_sound(store, records, width, id);
@@ -50,7 +51,7 @@ pub fn link(store: &[u8], records: &mut [u32], width: u32, id: ObjectId) -> Answ
 
 // 12 where the session is not sound, 1 nothing open, 5 no bytes, 8 a new object past the limit.
 pub fn close(store: &mut [u8], records: &mut [u32]) -> Closing
-    ensures { λ r. ⌜ closing r (now (store .exit)) (now (records .exit)) ≡ closeStep (now (store .entry)) (now (records .entry)) ⌝ }
+    ensures { λ r. ⌜ left (toldByClose r) (now (store .exit)) (now (records .exit)) ≡ stepOn close (stores (now (store .entry)) (now (records .entry))) ⌝ }
 {
     if is_sound(store, records) {
         return close_sound(store, records);
@@ -60,7 +61,7 @@ pub fn close(store: &mut [u8], records: &mut [u32]) -> Closing
 
 // 12 where the session is not sound, 1 where nothing is open.
 pub fn drop(store: &mut [u8], records: &mut [u32]) -> Answer
-    ensures { λ r. ⌜ outcome r (now (store .exit)) (now (records .exit)) ≡ dropStep (now (store .entry)) (now (records .entry)) ⌝ }
+    ensures { λ r. ⌜ left (toldBy r) (now (store .exit)) (now (records .exit)) ≡ stepOn drop (stores (now (store .entry)) (now (records .entry))) ⌝ }
 {
     if is_sound(store, records) {
         return drop_sound(store, records);
@@ -70,7 +71,7 @@ pub fn drop(store: &mut [u8], records: &mut [u32]) -> Answer
 
 // 12 where the session is not sound.
 pub fn tally(store: &[u8], records: &[u32]) -> Answer
-    ensures { λ r. ⌜ outcome r (now (store .entry)) (now (records .entry)) ≡ tallyStep (now (store .entry)) (now (records .entry)) ⌝ }
+    ensures { λ r. ⌜ left (toldBy r) (now (store .entry)) (now (records .entry)) ≡ stepOn tally (stores (now (store .entry)) (now (records .entry))) ⌝ }
 {
     if is_sound(store, records) {
         return Answer::Done(tally_sound(store, records));

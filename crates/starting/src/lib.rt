@@ -11,7 +11,9 @@ ghost use mathlib.Core.Path.{_≡_};
 ghost use Prim.Native.Nat.{_≤_};
 ghost use lib.ListN.{length};
 ghost use Rattle.layout.specs.Words.{need as recordsNeed};
-ghost use Rattle.steps.specs.Steps.{outcome, startStep, startWords};
+ghost use Rattle.model.specs.Told.{toldBy};
+ghost use Rattle.steps.specs.Steps.{startWords};
+ghost use Rattle.steps.specs.Runs.{start, stores, left, stepOn};
 
 // The needed words cleared, the limits and the store's length noted.
 fn start_words(records: &mut [u32], objects: u32, links: u32, bytes: usize)
@@ -28,7 +30,7 @@ fn start_words(records: &mut [u32], objects: u32, links: u32, bytes: usize)
 
 // 13 where a limit or a store is outside its range, or the record store is short of its need.
 pub fn start(store: &mut [u8], records: &mut [u32], objects: u32, links: u32) -> Answer
-    ensures { λ r. ⌜ outcome r (now (store .exit)) (now (records .exit)) ≡ startStep objects links (now (store .entry)) (now (records .entry)) ⌝ }
+    ensures { λ r. ⌜ left (toldBy r) (now (store .exit)) (now (records .exit)) ≡ stepOn (start objects links) (stores (now (store .entry)) (now (records .entry))) ⌝ }
 {
     let n = store.len();
     let fits = (1 <= objects)
