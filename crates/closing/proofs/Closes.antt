@@ -7,23 +7,18 @@ use native.Mathlib.Omega.{arith}
 use borrow.Author.Tests.{eq-eqb, ne-eqb, le-leb, lt-leb, lt-ltb, le-ltb}
 use lib.ListN.{length, getD}
 use lib.Dec.{eqb}
-use Rattle.answer.specs.Number.{noTally}
 use Rattle.answer.specs.Tally.{added, released}
 use Rattle.answer.specs.declared.tally.Tally.{Tally}
 use Rattle.answer.specs.declared.Refusal.the-variants as Refusal
 use Rattle.answer.specs.declared.Closing.the-variants as Closing
 use Rattle.model.specs.Judge.{verdict}
 use Rattle.layout.specs.Words.{objectLimit, closedCount, openDepth, endsAt, linkEndsAt, top}
-use Rattle.layout.specs.Sound.{sound}
 use Rattle.layout.specs.Known.{Read}
 use Rattle.layout.specs.declared.state.State.{State}
 use Rattle.steps.specs.Steps.{tallyBy, under, linkUnder, droppedBytes, droppedWords, closing, twinIn, sealedBytes, sealedWords, closeStep}
 use Rattle.sealing.specs.Sealing.{Sealing}
+use Rattle.steps.proofs.Innermost.{twin-most}
 use Rattle.steps.proofs.Held.{Held, held, Below, inner-from, inner-first}
-
-pub close-unsound : {b w : List ℕ} {t : Tally} → t ≡ noTally → sound b w ≡ false → closing (Closing.Refused Refusal.Unsound t) b w ≡ closeStep b w
-unfolding closeStep verdict
-close-unsound e h = rw (h, e)
 
 module _ {b w : List ℕ} {s : State} {t : Tally} (h : Held b w s t) where
   pub close-none : s .depth ≡ 0 → closing (Closing.Refused Refusal.NothingOpen t) b w ≡ closeStep b w
@@ -75,10 +70,11 @@ module _ {b w : List ℕ} {s : State} {t : Tally} {from first : ℕ} (k : Ready 
         rw (h .counts .isSound, isOpen h (k .some), notEmpty, le-leb (closedCount w) (twinIn b w) (omega arith), le-leb (objectLimit w) (closedCount w) (omega arith))
         (rw (h .tallyIs))
 
-    pub close-new : s .closed < s .objects → closing (Closing.Done (record { 0 = s .closed }) (added t)) (sealedBytes b w) (sealedWords w) ≡ closeStep b w
+    pub close-new : s .closed < s .objects → closing (Closing.Done (record { 0 = i }) (added t)) (sealedBytes b w) (sealedWords w) ≡ closeStep b w
     unfolding closeStep verdict
     close-new m =
         let h = k .held in
         let r = h .counts in
+        let next : i ≡ closedCount w = omega (arith, twin-most b w) in
         rw (r .isSound, isOpen h (k .some), notEmpty, le-leb (closedCount w) (twinIn b w) (omega arith), lt-leb (objectLimit w) (closedCount w) (omega arith), le-ltb (twinIn b w) (closedCount w) (omega arith))
-        (rw (r .closedIs, h .tallyIs))
+        (rw (next, h .tallyIs))

@@ -1,5 +1,4 @@
 pub mod Copying
 pub mod ClosedObjects
 pub mod CopiedGraph
-pub mod Formed
 pub mod Standing

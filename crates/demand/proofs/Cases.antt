@@ -16,9 +16,9 @@ use Rattle.layout.specs.Fields.{fieldTests, fieldsOk}
 use Rattle.layout.specs.Sound.{headTests, headOk, tableTests, soundTests, sound}
 use Rattle.layout.specs.Decode.{opensTo, closedTo, decode}
 use Rattle.steps.specs.Steps.{startStep, openStep, putStep, linkStep, dropStep, tallyStep, twinIn, closeStep}
-use Rattle.steps.specs.Runs.{stepOn}
+use Rattle.steps.specs.Runs.{stepOn, lentStep}
 use Rattle.steps.specs.Pack.{packStep}
-use Rattle.demand.specs.Demand.{lentStep, run}
+use Rattle.demand.specs.Demand.{run}
 use Rattle.demand.specs.Cases.{idsTold, countsTold, memoryRight, right, allRight}
 
 pub cases-right : allRight cases ≡ true

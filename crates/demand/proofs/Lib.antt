@@ -1,5 +1,9 @@
+pub mod Surplus
+pub mod Calls
+pub mod Always
 pub mod Packs
 pub mod Orders
 pub mod Demand
-pub mod Program
+pub mod Theorems
+pub mod Refused
 pub mod Cases

@@ -1,50 +1,38 @@
--- Paper 01, demand 2, for a pack on sound stores: which order's table it writes, and when it tells 11 and with which link.
-use mathlib.Core.Path.{_≡_, refl}
-use Prim.Native.Nat.{ℕ, _≤_, _<_}
+-- Which order's table a pack writes, exactly when it is accepted, and exactly when it tells 11 and with which link.
+use mathlib.Core.Path.{_≡_, refl, sym, _∙_}
+use Prim.Native.Nat.{ℕ}
 use mathlib.Core.List.{List, [], _∷_}
-use mathlib.Core.Bool.{Bool, true, false, not, true≢false}
+use mathlib.Core.Bool.{true≢false}
 use native.Mathlib.Omega.{arith}
-use borrow.Author.Tests.{ltb-false, leb-false, eqb-true, le-ltb, lt-leb, eq-eqb}
+use borrow.Author.Tests.{ltb-false, leb-false, eqb-true, le-ltb, lt-leb, eq-eqb, not-false}
 use lib.ListN.{length}
-use lib.Dec.{eqb, leb, ltb}
+use lib.Dec.{eqb}
 use Rattle.lists.specs.Lists.{over}
+use Rattle.answer.specs.Number.{number}
 use Rattle.answer.specs.declared.Overflow.{Overflow}
 use Rattle.answer.specs.declared.Refusal.the-variants as Refusal
-use Rattle.answer.specs.declared.Packing.the-variants.{Done}
-use Rattle.model.specs.Graph.{Graph, graphOf, reached}
-use Rattle.model.specs.Reading.{readingAt, readings}
 use Rattle.model.specs.Distance.{kahnOrder, distanceOrder}
-use Rattle.model.specs.Table.{unfit, Outcome, placed, overflow, arranged, tableLength, tableOf}
-use Rattle.model.specs.Judge.{Verdict, accepted, refused, when, verdict, overflows, judgePack}
-use Rattle.model.specs.Told.{Told, refusal, toldByPack}
-use Rattle.model.specs.Session.{content, tableIn}
-use Rattle.model.proofs.Tables.{LaidOut}
+use Rattle.model.specs.Graph.{Graph}
+use Rattle.model.specs.Table.{unfit, Outcome, placed, overflow, arranged, tableLength}
+use Rattle.model.specs.Judge.{Verdict, accepted, refused, numberOf, Test, Tells, none, this, next, verdict, overflows, packTests}
+use Rattle.model.specs.Told.{donePack, refusal, toldByPack}
 use Rattle.model.proofs.Outcomes.{kahn-placed, distance-placed, none-placed}
+use Rattle.model.proofs.Refusals.{told-exactly}
 use Rattle.model.proofs.Verdicts.{passes, refused-number}
-use Rattle.layout.specs.Words.{objectLimit, linkLimit, closedCount, openDepth}
-use Rattle.layout.specs.Decode.{decode}
+use Rattle.layout.specs.Words.{objectLimit, linkLimit, openDepth}
+use Rattle.layout.specs.Need.{workNeed}
 use Rattle.layout.specs.Sound.{sound}
 use Rattle.steps.specs.Steps.{tallyIn}
-use Rattle.layout.specs.Need.{workNeed}
-use Rattle.steps.specs.Pack.{PackOut, packed, cleared, settle, packStep}
+use Rattle.steps.specs.Pack.{PackOut, packBy, packStep}
+use Rattle.steps.specs.Runs.{lentStep}
+use Rattle.demand.specs.Orders.{Chosen, kahn, distance, Unfit, graphIn, tableBy, packTold, Tested, Ordered, Overflows}
 use Rattle.demand.proofs.Packs.{placed-laid}
 
--- ---- the two orders
-
--- o is the plain order where every offset fits in it, and else the distance order; every offset fits in o
-pub data Chosen (g : Graph) (root : ℕ) (o : List ℕ) : Type 0 where
-  kahn : o ≡ kahnOrder g root → unfit g o ≡ [] → Chosen g root o
-  distance : (unfit g (kahnOrder g root) ≡ [] → ⊥) → o ≡ distanceOrder g root → unfit g o ≡ [] → Chosen g root o
-
--- neither order fits, and v is the distance order's first link that does not
-pub record Unfit (g : Graph) (root : ℕ) (v : Overflow) : Type 0 where
-  pub kahn : unfit g (kahnOrder g root) ≡ [] → ⊥
-  pub rest : List Overflow
-  pub distance : unfit g (distanceOrder g root) ≡ v ∷ rest
+-- ---- what the orders come to
 
 data Seen (g : Graph) (root : ℕ) : Outcome → Type 0 where
   fit : {o : List ℕ} → Chosen g root o → Seen g root (placed o)
-  none : {v : Overflow} → Unfit g root v → Seen g root (overflow v)
+  unfits : {v : Overflow} → Unfit g root v → Seen g root (overflow v)
 
 some-unfit : {u : Overflow} {us l : List Overflow} → l ≡ u ∷ us → l ≡ [] → ⊥
 some-unfit e f = let z : _≡_ {A = ℕ} 0 1 = cc in omega arith
@@ -55,7 +43,7 @@ seen g root = go (unfit g (kahnOrder g root)) (unfit g (distanceOrder g root)) r
     go : (us vs : List Overflow) → unfit g (kahnOrder g root) ≡ us → unfit g (distanceOrder g root) ≡ vs → Seen g root (arranged g root)
     go [] vs e f = rw (kahn-placed g root e) (fit (kahn refl e))
     go (u ∷ us) [] e f = rw (distance-placed g root e f) (fit (distance (some-unfit e) refl f))
-    go (u ∷ us) (v ∷ vs) e f = rw (none-placed g root e f) (none (record { kahn = some-unfit e; rest = vs; distance = f }))
+    go (u ∷ us) (v ∷ vs) e f = rw (none-placed g root e f) (unfits (record { kahn = some-unfit e; rest = vs; distance = f }))
 
 unfit-arranged : {g : Graph} {root : ℕ} {v : Overflow} → Unfit g root v → arranged g root ≡ overflow v
 unfit-arranged {g = g} {root = root} {v = v} n = go (unfit g (kahnOrder g root)) refl
@@ -64,83 +52,110 @@ unfit-arranged {g = g} {root = root} {v = v} n = go (unfit g (kahnOrder g root))
     go [] e = absurd (n .kahn e)
     go (u ∷ us) e = none-placed g root e (n .distance)
 
+chosen-arranged : {g : Graph} {root : ℕ} {o : List ℕ} → Chosen g root o → arranged g root ≡ placed o
+chosen-arranged {g = g} {root = root} (kahn e f) = rw e (kahn-placed g root (rw e at f))
+chosen-arranged {g = g} {root = root} {o = o} (distance n e f) = go (unfit g (kahnOrder g root)) refl
+  where
+    go : (us : List Overflow) → unfit g (kahnOrder g root) ≡ us → arranged g root ≡ placed o
+    go [] z = absurd (n z)
+    go (u ∷ us) z = rw e (distance-placed g root z (rw e at f))
+
 -- ---- a pack
 
 module _ (b w : List ℕ) (id : ℕ) (out work : List ℕ) where
   abbrev g : Graph
-  g = graphOf (decode b w .closed)
-
-  -- an accepted one: its order, and a table in front of the output that shows the root's reading from its first byte, every reached object's at
-  -- its place, and every child behind its parent
-  pub record Ordered : Type 0 where
-    pub order : List ℕ
-    pub chosen : Chosen g id order
-    pub written : packStep id b w out work .out ≡ over 0 (tableOf g (content (decode b w)) order) out
-    pub laid : LaidOut g (reached g id) id (readingAt (readings (decode b w .closed))) order (tableOf g (content (decode b w)) order)
-
-  -- no test but that of the orders applies, and neither order fits
-  pub record Overflows (v : Overflow) : Type 0 where
-    pub memory : workNeed (objectLimit w) (linkLimit w) ≤ length work
-    pub noneOpen : openDepth w ≡ 0
-    pub known : id < closedCount w
-    pub room : tableLength g id ≤ length out
-    pub unfits : Unfit g id v
+  g = graphIn b w id out work
 
   -- by an outcome
-  abbrev verdictOn : Outcome → Verdict
-  verdictOn u = judgePack true (tallyIn b w) id (length work) (workNeed (objectLimit w) (linkLimit w)) (length out) (tableLength g id) u
+  abbrev testsOn : Outcome → List Test
+  testsOn u = packTests (sound b w) (tallyIn b w) id (length work) (workNeed (objectLimit w) (linkLimit w)) (length out) (tableLength g id) u
 
   abbrev settled : Verdict → Outcome → PackOut
-  settled v u = settle v b w out work (packed (Done (tableLength g id) (tallyIn b w)) (over 0 (tableIn (decode b w) u) out) (cleared w work))
+  settled v u = packBy v (tableLength g id) u b w out work
 
-  module _ (h : sound b w ≡ true) where
-    step-is : packStep id b w out work ≡ settled (verdictOn (arranged g id)) (arranged g id)
-    unfolding packStep
-    step-is = rw h
+  step-is : packStep id b w out work ≡ settled (verdict (testsOn (arranged g id))) (arranged g id)
+  unfolding packStep
+  step-is = refl
 
-    settled-accepted : (v : Verdict) (u : Outcome) → toldByPack (settled v u .answer) .number ≡ 0 → v ≡ accepted
-    settled-accepted accepted u e = refl
-    settled-accepted (refused why) u e = absurd (omega (arith, refused-number why))
+  settled-number : (v : Verdict) (u : Outcome) → toldByPack (settled v u .answer) .number ≡ numberOf v
+  settled-number accepted u = refl
+  settled-number (refused why) u = refl
 
-    pub accepted-ordered : toldByPack (packStep id b w out work .answer) .number ≡ 0 → Ordered
-    accepted-ordered e = go (arranged g id) (seen g id) refl (rw step-is at e)
-      where
-        go : (u : Outcome) → Seen g id u → arranged g id ≡ u → toldByPack (settled (verdictOn u) u .answer) .number ≡ 0 → Ordered
-        go (placed o) (fit c) f e = record {
-          order = o;
-          chosen = c;
-          written = rw (step-is, f, settled-accepted (verdictOn (placed o)) (placed o) e);
-          laid = placed-laid b w h id o f;
-        }
-        go (overflow v) (none n) f e = absurd (true≢false (passes _ (settled-accepted (verdictOn (overflow v)) (overflow v) e) 5))
+  tells : {k : ℕ} (u : Outcome) → toldByPack (settled (verdict (testsOn u)) u .answer) .number ≡ k → Tells (testsOn u) k
+  tells {k = k} u e = told-exactly (testsOn u) k .only (sym (settled-number (verdict (testsOn u)) u) ∙ e)
 
-    -- ---- 11 is told exactly where Overflows holds, and with its link
+  -- a number that no test before that of the orders tells
+  record Late (k : ℕ) : Type 0 where
+    past12 : k ≡ number Refusal.Unsound → ⊥
+    past13 : k ≡ number Refusal.OutOfRange → ⊥
+    past9 : k ≡ number Refusal.ObjectOpen → ⊥
+    past4 : k ≡ number Refusal.NotClosed → ⊥
+    past10 : k ≡ number Refusal.OutputShort → ⊥
 
-    pub overflow-told : (v : Overflow) → Overflows v → toldByPack (packStep id b w out work .answer) ≡ refusal (Refusal.Overflow v) (tallyIn b w)
-    unfolding verdict
-    overflow-told v o =
-        rw (step-is, unfit-arranged (o .unfits), le-ltb (length work) _ (o .memory), eq-eqb (openDepth w) 0 (o .noneOpen), lt-leb (closedCount w) id (o .known), le-ltb (length out) _ (o .room))
+  tested : {k : ℕ} (u : Outcome) → Late k → Tells (testsOn u) k → Tested b w id out work × Tells (overflows u) k
+  tested u l (this h e) = absurd (l .past12 e)
+  tested u l (next h (this i e)) = absurd (l .past13 e)
+  tested u l (next h (next i (this j e))) = absurd (l .past9 e)
+  tested u l (next h (next i (next j (this m e)))) = absurd (l .past4 e)
+  tested u l (next h (next i (next j (next m (this n e))))) = absurd (l .past10 e)
+  tested u l (next h (next i (next j (next m (next n r))))) = (
+    record {
+      isSound = not-false (sound b w) h;
+      memory = ltb-false _ _ i;
+      noneOpen = eqb-true _ _ (not-false (eqb (openDepth w) 0) j);
+      known = leb-false _ _ m;
+      room = ltb-false _ _ n;
+    },
+    r,
+  )
 
-    pub told-overflow : toldByPack (packStep id b w out work .answer) .number ≡ 11 → Overflows (toldByPack (packStep id b w out work .answer) .overflow)
-    unfolding verdict
-    told-overflow = rw step-is (go (arranged g id) (seen g id) _ refl _ refl _ refl _ refl)
-      where
-        -- by what the four tests before the orders say
-        tested : Bool → Bool → Bool → Bool → Outcome → Told
-        tested x y z q u =
-            toldByPack (settled (verdict (when x Refusal.OutOfRange ∷ when (not y) Refusal.ObjectOpen ∷ when z Refusal.NotClosed ∷ when q Refusal.OutputShort ∷ overflows u)) u .answer)
+  -- where they passed, only the orders are left
+  left-tests : (u : Outcome) → Tested b w id out work → verdict (testsOn u) ≡ verdict (overflows u)
+  unfolding verdict
+  left-tests u t = rw (t .isSound, le-ltb (length work) _ (t .memory), eq-eqb (openDepth w) 0 (t .noneOpen), lt-leb _ id (t .known), le-ltb (length out) _ (t .room))
 
-        go : (u : Outcome) → Seen g id u → (x : Bool) → ltb (length work) (workNeed (objectLimit w) (linkLimit w)) ≡ x → (y : Bool) → eqb (openDepth w) 0 ≡ y
-            → (z : Bool) → leb (closedCount w) id ≡ z → (q : Bool) → ltb (length out) (tableLength g id) ≡ q → tested x y z q u .number ≡ 11 → Overflows (tested x y z q u .overflow)
-        go u s true hx y hy z hz q hq e = absurd (omega arith)
-        go u s false hx false hy z hz q hq e = absurd (omega arith)
-        go u s false hx true hy true hz q hq e = absurd (omega arith)
-        go u s false hx true hy false hz true hq e = absurd (omega arith)
-        go (placed o) s false hx true hy false hz false hq e = absurd (omega arith)
-        go (overflow v) (none n) false hx true hy false hz false hq e = record {
-          memory = ltb-false _ _ hx;
-          noneOpen = eqb-true _ _ hy;
-          known = leb-false _ _ hz;
-          room = ltb-false _ _ hq;
-          unfits = n;
-        }
+  -- ---- accepted exactly where no test applies and one of the orders fits
+
+  pub accepted-ordered : packTold b w id out work .number ≡ 0 → Ordered b w id out work
+  unfolding lentStep verdict tableLength
+  accepted-ordered e = go (arranged g id) (seen g id) refl (tested (arranged g id) late (tells (arranged g id) (rw step-is at e)))
+    where
+      late : Late 0
+      late = record { past12 = λ z. omega arith; past13 = λ z. omega arith; past9 = λ z. omega arith; past4 = λ z. omega arith; past10 = λ z. omega arith }
+
+      go : (u : Outcome) → Seen g id u → arranged g id ≡ u → Tested b w id out work × Tells (overflows u) 0 → Ordered b w id out work
+      go (placed o) (fit c) f t =
+          let l = placed-laid b w (t .0 .isSound) id o f in
+          let v = left-tests (placed o) (t .0) in
+          record {
+            tested = t .0;
+            order = o;
+            chosen = c;
+            told = rw (step-is, f, v, l .sum);
+            written = rw (step-is, f, v);
+            laid = l;
+          }
+      go (overflow v) (unfits n) f (t, this h z) = absurd (omega arith)
+      go (overflow v) (unfits n) f (t, next h r) = absurd (true≢false h)
+
+  pub ordered-accepted : {o : List ℕ} → Tested b w id out work → Chosen g id o → packTold b w id out work .number ≡ 0
+  unfolding lentStep verdict
+  ordered-accepted {o = o} t c = rw (step-is, chosen-arranged c, left-tests (placed o) t)
+
+  -- ---- 11 exactly where no test applies and no order fits, and with its link
+
+  pub told-overflow : packTold b w id out work .number ≡ 11 → Overflows b w id out work (packTold b w id out work .overflow)
+  unfolding lentStep verdict
+  told-overflow e = go (arranged g id) (seen g id) refl (tested (arranged g id) late (tells (arranged g id) (rw step-is at e)))
+    where
+      late : Late 11
+      late = record { past12 = λ z. omega arith; past13 = λ z. omega arith; past9 = λ z. omega arith; past4 = λ z. omega arith; past10 = λ z. omega arith }
+
+      go : (u : Outcome) → Seen g id u → arranged g id ≡ u → Tested b w id out work × Tells (overflows u) 11
+          → Overflows b w id out work (toldByPack (packStep id b w out work .answer) .overflow)
+      go (placed o) (fit c) f (t, none z) = absurd (omega arith)
+      go (overflow v) (unfits n) f t = rw (step-is, f, left-tests (overflow v) (t .0)) record { tested = t .0; unfits = n }
+
+  pub overflow-told : (v : Overflow) → Overflows b w id out work v → packTold b w id out work ≡ refusal (Refusal.Overflow v) (tallyIn b w)
+  unfolding lentStep verdict
+  overflow-told v o = rw (step-is, unfit-arranged (o .unfits), left-tests (overflow v) (o .tested))

@@ -18,7 +18,8 @@ use Rattle.model.specs.Told.{donePack, refusal, toldByPack}
 use Rattle.model.specs.Session.{Session, tallyOf, PackLeft, content, tableIn, settlePack, pack}
 use Rattle.model.proofs.Reach.{reached-rooted}
 use Rattle.model.proofs.Readings.{readings-read}
-use Rattle.model.proofs.Tables.{LaidOut, layout}
+use Rattle.model.specs.Laid.{LaidOut}
+use Rattle.model.proofs.Tables.{layout}
 use Rattle.model.proofs.Outcomes.{placed-arranged}
 use Rattle.model.proofs.Verdicts.{passes, refused-number}
 use Rattle.model.proofs.Fair.{fair, fair-verdict}
@@ -31,7 +32,7 @@ use Rattle.steps.proofs.Tallies.{tally-decode, limits-decode}
 use Rattle.layout.specs.Need.{workNeed}
 use Rattle.steps.specs.Pack.{PackOut, packed, cleared, settle, packStep}
 use Rattle.demand.specs.Demand.{needs}
-use Rattle.copying.proofs.Formed.{sound-formed}
+use Rattle.steps.proofs.Formed.{sound-formed}
 
 -- a pack over an output that held `out`; 12 is never told
 pub record PackFollows (out : List ℕ) (o : PackOut) (m : PackLeft) : Type 0 where

@@ -26,7 +26,7 @@ use Rattle.fitting.specs.declared.Look.the-variants.{Fits, Over}
 use Rattle.copying.specs.Copy.{graphEnd}
 use Rattle.writing.specs.Write.{Writing, orderIn, placesIn, tableIn}
 use Rattle.laying.specs.Lay.{Laying, Laid, lookIn, oneOrder}
-use Rattle.copying.proofs.Formed.{sound-formed}
+use Rattle.steps.proofs.Formed.{sound-formed}
 use Rattle.copying.proofs.Standing.{stands-kept, tidy-read}
 
 -- ---- an outcome by what the look at it tells

@@ -1,10 +1,10 @@
 -- What a list holds after another is written over a part of it.
 use mathlib.Core.Path.{_≡_, refl, ap, _∙_}
 use Prim.Native.Nat.{ℕ, _+_, _-_, _≤_, _<_}
-use mathlib.Core.List.{List, _++_}
+use mathlib.Core.List.{List, _++_, append-assoc}
 use native.Mathlib.Omega.{arith}
 use lib.ListN.{length, take, drop, getD, length-append, length-take, length-drop, List·getD-append}
-use lib.Seq.{take-append-le, take-at, drop-at, take-take, getD-take, getD-drop, getD-append-add, length-take-le}
+use lib.Seq.{take-append-le, take-at, drop-at, drop-drop, take-take, getD-take, getD-drop, getD-append-add, length-take-le}
 use Rattle.lists.specs.Lists.{part, over}
 
 module _ (i : ℕ) (vs l : List ℕ) (h : i + length vs ≤ length l) where
@@ -30,6 +30,15 @@ module _ (i : ℕ) (vs l : List ℕ) (h : i + length vs ≤ length l) where
   pub over-take : (m : ℕ) → m ≤ i → take m (over i vs l) ≡ take m l
   unfolding over
   over-take m b = take-append-le m (take i l) _ (omega (arith, length-take-le i l (omega arith))) ∙ take-take m i l b
+
+  pub over-drop : (m : ℕ) → i + length vs ≤ m → drop m (over i vs l) ≡ drop m l
+  unfolding over
+  over-drop m b =
+      let k : ℕ = i + length vs in
+      let n : length (take i l ++ vs) ≡ k = omega (arith, length-append (take i l) vs, length-take-le i l (omega arith)) in
+      let e : k + (m - k) ≡ m = omega arith in
+      let f : drop k (over i vs l) ≡ drop k l = rw (← append-assoc) (drop-at (take i l ++ vs) (drop k l) k n) in
+      rw (← e, ← drop-drop (m - k) k (over i vs l), f, drop-drop)
 
   -- what was written stands there
   pub part-over : part i (i + length vs) (over i vs l) ≡ vs

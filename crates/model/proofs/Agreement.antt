@@ -1,4 +1,4 @@
--- Paper 01, "The history of demand 3": every call of a list tells what the history says, whatever the calls are.
+-- docs/RULES.md, section 8: every call of a list tells what the history says, whatever the calls are.
 use mathlib.Core.Path.{_≡_, refl, ap, _∙_}
 use Prim.Native.Nat.{ℕ, _<_}
 use mathlib.Core.List.{List, [], _∷_}

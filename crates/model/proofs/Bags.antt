@@ -1,15 +1,15 @@
 -- Laws of bags of ids.
 use mathlib.Core.Path.{_≡_, refl, sym, ap, _∙_}
 use Prim.Native.Nat.{ℕ, zero, suc, _+_, _-_, _≤_, _<_}
-use mathlib.Core.List.{List, [], _∷_, _++_}
+use mathlib.Core.List.{List, [], _∷_, _++_, append-assoc, append-nil}
 use mathlib.Core.Bool.{Bool, true, false}
 use native.Mathlib.Omega.{arith}
 use native.Mathlib.Decide.{ℕ-discrete, decLe}
 use lib.ListN.{length}
 use lib.Dec.{eqb}
-use borrow.Author.Tests.{eq-eqb, ne-eqb}
+use borrow.Author.Tests.{eq-eqb, ne-eqb, ltb-true, ltb-false}
 use Rattle.lists.specs.Lists.{pick, total}
-use Rattle.model.specs.Bag.{one, count, without, zerosOf, lastOnce, leads, least}
+use Rattle.model.specs.Bag.{one, count, without, zerosOf, lastOnce, leads, least, FirstLeast}
 
 pub one-same : (x : ℕ) → one x x ≡ 1
 unfolding one
@@ -122,6 +122,35 @@ least-in key b (x ∷ l) = go (leads key x b) (least-in key x l) (least-in key b
         → 0 < one (least key (pick t x b) l) b + (one (least key (pick t x b) l) x + count (least key (pick t x b) l) l)
     go true i j = omega arith
     go false i j = omega arith
+
+-- `front` and `middle` are gone by, before the best and after it
+least-from : (key : ℕ → ℕ) (whole front : List ℕ) (best : ℕ) (middle l : List ℕ) → whole ≡ front ++ (best ∷ (middle ++ l))
+    → ((y : ℕ) → 0 < count y front → key best < key y) → ((y : ℕ) → 0 < count y middle → key best ≤ key y) → FirstLeast key whole (least key best l)
+unfolding least count
+least-from key whole front best middle [] e a b = record { front = front; back = middle; split = rw append-nil at e; above = a; least = b }
+least-from key whole front best middle (x ∷ l) e a b = go (leads key x best) refl
+    (λ h. least-from key whole (front ++ (best ∷ middle)) x [] l (e ∙ sym (append-assoc front (best ∷ middle) (x ∷ l)))
+    (λ y k. higher h y k (zeroOr (count y front)) (sameOr y best)) (λ y k. absurd (omega arith)))
+    (λ h. least-from key whole front best (middle ++ (x ∷ [])) l (rw append-assoc e) a (λ y k. later h y k (sameOr y x)))
+  where
+    higher : key x < key best → (y : ℕ) → 0 < count y (front ++ (best ∷ middle)) → Zero (count y front) → Same y best → key x < key y
+    higher h y k (some z _) s = omega (arith, a y z)
+    higher h y k (none _ _) (same f _ _) = rw f h
+    higher h y k (none z _) (other _ _ n) = omega (arith, b y (omega (arith, count-append y front (best ∷ middle))))
+
+    later : key best ≤ key x → (y : ℕ) → 0 < count y (middle ++ (x ∷ [])) → Same y x → key best ≤ key y
+    later h y k (same f _ _) = rw f h
+    later h y k (other _ _ n) = b y (omega (arith, count-append y middle (x ∷ [])))
+
+    go : (t : Bool) → leads key x best ≡ t → (key x < key best → FirstLeast key whole (least key x l)) → (key best ≤ key x → FirstLeast key whole (least key best l))
+        → FirstLeast key whole (least key (pick t x best) l)
+    go true f i j = i (omega (arith, ltb-true))
+    go false f i j = j (omega (arith, ltb-false))
+
+-- the least is of least key, and the first of those
+pub least-first : (key : ℕ → ℕ) (best : ℕ) (l : List ℕ) → FirstLeast key (best ∷ l) (least key best l)
+unfolding count
+least-first key best l = least-from key (best ∷ l) [] best [] l refl (λ y k. absurd (omega arith)) (λ y k. absurd (omega arith))
 
 -- sums over equal bags are equal
 pub total-bag : (f : ℕ → ℕ) (l m : List ℕ) → ((c : ℕ) → count c l ≡ count c m) → total f l ≡ total f m

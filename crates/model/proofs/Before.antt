@@ -37,6 +37,16 @@ module _ (f : ℕ → ℕ) where
       go h (same e _ _) = rw e (omega (arith, before-here x o))
       go h (other n _ _) = omega (arith, before-next x o i n)
 
+  -- with one of them, those before it are in the sum
+  pub before-end : (o : List ℕ) (i : ℕ) → 0 < count i o → before f o i + f i ≤ total f o
+  unfolding total count
+  before-end [] i h = absurd (omega arith)
+  before-end (x ∷ o) i h = go (before-end o i) (sameOr i x)
+    where
+      go : (0 < count i o → before f o i + f i ≤ total f o) → Same i x → before f (x ∷ o) i + f i ≤ f x + total f o
+      go r (same e _ _) = rw e (omega (arith, before-here x o))
+      go r (other n _ z) = omega (arith, before-next x o i n, r (omega arith))
+
   -- a child has its parent and all those before its parent before it
   pub before-behind : (g : Graph) (o : List ℕ) → ParentsFirst g o → (p c : ℕ) → 0 < count p o → 0 < count c (kids g p) → before f o p + f p ≤ before f o c
   unfolding ParentsFirst count

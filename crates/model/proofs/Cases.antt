@@ -9,9 +9,9 @@ use Rattle.model.specs.Graph.{kidsOf, waits, reachDown, reached}
 use Rattle.model.specs.Order.{orderFrom, orderBy}
 use Rattle.model.specs.Distance.{relax, relaxAll, distancesBy, beyond, distance, kahnOrder, distanceOrder}
 use Rattle.model.specs.Table.{before, offset, unfitLinks, unfitFrom, tryOrder, tryLast, firstFit, arranged, tableLength, filled, objectBytes, tableFrom, tableOf}
-use Rattle.model.specs.Judge.{verdict}
+use Rattle.model.specs.Judge.{verdict, numberOf}
 use Rattle.model.specs.Session.{step, pack, afterCall}
-use Rattle.model.specs.Cases.{numbersOf, idsOf, countsOf, tablesOf, right, allRight, cases, numberOf, several}
+use Rattle.model.specs.Cases.{numbersOf, idsOf, countsOf, tablesOf, right, allRight, cases, several}
 use Rattle.model.specs.OrderCases.{right as orderRight, allRight as ordersRight, cases as graphs}
 
 pub cases-right : allRight cases ≡ true

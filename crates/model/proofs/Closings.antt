@@ -13,7 +13,7 @@ use Rattle.lists.proofs.Frames.{first-most}
 use Rattle.model.specs.Reading.{Reading, bytes, sameReading, readingAt}
 use Rattle.model.specs.Judge.{Verdict, accepted, refused}
 use Rattle.model.specs.Session.{Needs, SessionCall, startCall, openCall, putCall, linkCall, closeCall, dropCall, tallyCall, Call, sessionCall, packCall}
-use Rattle.model.specs.History.{History, inner, idOf, closes, judged, accept, next, after, Alike}
+use Rattle.model.specs.History.{History, inner, idOf, closes, judged, accept, next, after, afterAll, Starts, NoStart, Alike}
 use Rattle.model.proofs.SameReading.{reading-equal, reading-self}
 
 -- ---- ids stay
@@ -57,17 +57,6 @@ known-closed h = go (ltb (idOf h) (length (h .closed))) refl
 
 -- ---- until the next accepted start
 
--- an accepted start
-unfoldable pub Starts : Needs → Call → History → Type 0
-Starts n (sessionCall (startCall m records)) h = judged n (startCall m records) h ≡ accepted
-Starts n (sessionCall openCall) h = ⊥
-Starts n (sessionCall (putCall vs)) h = ⊥
-Starts n (sessionCall (linkCall w id)) h = ⊥
-Starts n (sessionCall closeCall) h = ⊥
-Starts n (sessionCall dropCall) h = ⊥
-Starts n (sessionCall tallyCall) h = ⊥
-Starts n (packCall id out work) h = ⊥
-
 module _ (n : Needs) {r : Reading} {i : ℕ} where
   -- only an accepted close adds a closed reading
   known-accept : (c : SessionCall) (h : History) → (Starts n (sessionCall c) h → ⊥) → judged n c h ≡ accepted → Known r i (h .closed) → Known r i (accept c h .closed)
@@ -84,7 +73,7 @@ module _ (n : Needs) {r : Reading} {i : ℕ} where
   known-accept dropCall h s e k = k
   known-accept tallyCall h s e k = k
 
-  pub known-after : (c : Call) (h : History) → (Starts n c h → ⊥) → Known r i (h .closed) → Known r i (after n c h .closed)
+  known-after : (c : Call) (h : History) → (Starts n c h → ⊥) → Known r i (h .closed) → Known r i (after n c h .closed)
   unfolding after
   known-after (sessionCall c) h s k = go (judged n c h) (λ e. known-accept c h s e k)
     where
@@ -92,3 +81,8 @@ module _ (n : Needs) {r : Reading} {i : ℕ} where
       go accepted a = a refl
       go (refused why) a = k
   known-after (packCall id out work) h s k = k
+
+  pub known-all : (cs : List Call) (h : History) → NoStart n cs h → Known r i (h .closed) → Known r i (afterAll n cs h .closed)
+  unfolding NoStart afterAll
+  known-all [] h s k = k
+  known-all (c ∷ cs) h s k = known-all cs (after n c h) (s .1) (known-after c h (s .0) k)

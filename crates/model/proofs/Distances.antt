@@ -267,18 +267,6 @@ module _ (far : ℕ) (wt : Link → ℕ) (g : Graph) (nodes : List ℕ) (root : 
       w : (d : ℕ) × Path g wt root c d
       w = in-path g wt nodes root r rank y c h
 
-  -- a node that is not reached stays far
-  pub distance-far : (c : ℕ) → count c nodes ≡ 0 → getD (distancesBy far wt g o n root) c far ≡ far
-  unfolding distancesBy begin
-  distance-far c h = go (decLe far (getD (relaxAll far wt g o begin) c far))
-    where
-      apart : c ≡ root → ⊥
-      apart e = omega (arith, rw e at h, r .root-in)
-
-      go : Dec (far ≤ getD (relaxAll far wt g o begin) c far) → getD (relaxAll far wt g o begin) c far ≡ far
-      go (yes k) = omega (arith, all-down far wt g o begin c begin-under, begin-other c apart)
-      go (no k) = absurd (omega (arith, path-in g wt nodes root r (distance-path c (omega arith))))
-
 -- ---- no path's sum is as far as `beyond`
 
 module _ (wt : Link → ℕ) (g : Graph) (nodes : List ℕ) (root : ℕ) (r : Rooted g nodes root)

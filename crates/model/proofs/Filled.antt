@@ -11,6 +11,7 @@ use Rattle.lists.proofs.Over.{length-over, over-take}
 use Rattle.field.specs.BigEndian.{bigEndian}
 use Rattle.field.proofs.Laws.{length-big, field-before, field-after}
 use Rattle.model.specs.Object.{Link}
+use Rattle.model.specs.Distance.{In, here, there}
 use Rattle.model.specs.Table.{filled, FieldsIn}
 
 -- what ends a front of a list
@@ -25,6 +26,12 @@ front-part f x b a w e h k =
 unfoldable pub Clear : ℕ → List Link → Type 0
 Clear k [] = Unit {0}
 Clear k (l ∷ ls) = ((k < l .at) ⊎ (l .at + l .width ≤ k)) × Clear k ls
+
+-- a field lies inside
+pub field-room : (from n : ℕ) (l : Link) (ls : List Link) → FieldsIn from n ls → In l ls → l .at + l .width ≤ n
+unfolding FieldsIn
+field-room from n l (m ∷ ls) f (here e) = rw e (f .1)
+field-room from n l (m ∷ ls) f (there i) = field-room (m .at + m .width) n l ls (f .2) i
 
 module _ (off : Link → ℕ) where
   -- one field written
@@ -64,8 +71,8 @@ module _ (off : Link → ℕ) where
       filled-front (l .at + l .width) n m ls (wrote l bs) (omega (arith, f .0)) (length-wrote l bs k ∙ e) (f .2)
       ∙ over-take (l .at) (bigEndian (l .width) (off l)) bs (inside l bs k) m (omega (arith, f .0))
 
-  -- and the first field holds its offset
-  pub filled-field : (from n : ℕ) (l : Link) (ls : List Link) (bs : List ℕ) → length bs ≡ n → FieldsIn from n (l ∷ ls)
+  -- the first field holds its offset
+  filled-field : (from n : ℕ) (l : Link) (ls : List Link) (bs : List ℕ) → length bs ≡ n → FieldsIn from n (l ∷ ls)
       → part (l .at) (l .at + l .width) (filled off (l ∷ ls) bs) ≡ bigEndian (l .width) (off l)
   unfolding filled FieldsIn wrote over
   filled-field from n l ls bs e f =
@@ -77,3 +84,10 @@ module _ (off : Link → ℕ) where
       ∙ ap (λ (z : List ℕ). take (l .at + l .width) z) (sym (append-assoc (take (l .at) bs) (bigEndian (l .width) (off l)) _))
       ∙ take-at (take (l .at) bs ++ bigEndian (l .width) (off l)) _ (l .at + l .width) (omega (arith, length-append (take (l .at) bs) (bigEndian (l .width) (off l)))) in
       front-part (filled off ls (wrote l bs)) (take (l .at) bs) (bigEndian (l .width) (off l)) (l .at) (l .width) front q b
+
+  -- and so does every field
+  pub filled-at : (from n : ℕ) (l : Link) (ls : List Link) (bs : List ℕ) → length bs ≡ n → FieldsIn from n ls → In l ls
+      → part (l .at) (l .at + l .width) (filled off ls bs) ≡ bigEndian (l .width) (off l)
+  unfolding filled FieldsIn wrote
+  filled-at from n l (m ∷ ls) bs e f (here q) = rw q (filled-field from n m ls bs e f)
+  filled-at from n l (m ∷ ls) bs e f (there i) = filled-at (m .at + m .width) n l ls (wrote m bs) (length-wrote m bs (omega (arith, f .1)) ∙ e) (f .2) i

@@ -15,29 +15,26 @@ use Rattle.model.specs.Table.{Fields}
 use Rattle.model.specs.Reading.{Reading, readingSize, fieldCount, sameReading, readLinks, readObject, readingsFrom, readings}
 use Rattle.model.specs.Judge.{Limits}
 use Rattle.model.specs.Session.{Session, tallyOf, started, withOpens, innermost, outer, onInnermost, twin, sealed, SessionCall, openCall, putCall, linkCall, closeCall, dropCall}
-use Rattle.model.specs.History.{History, counts, begun, keepOpens, inner, others, idOf, accept}
+use Rattle.model.specs.History.{History, historyOf, counts, begun, keepOpens, inner, others, idOf, accept}
 use Rattle.model.proofs.Readings.{read-more, readings-snoc}
 use Rattle.model.proofs.Growth.{read-size, read-count, read-put, read-link, total-readings, Formed, formed-none, formed-more, formed-put, formed-link}
 use Rattle.model.proofs.Twins.{Distinct, distinct-snoc, readings-count, twin-id}
 
--- ---- the history that a session's objects read as
+-- ---- the counts of what a session's objects read as
 
 module _ (s : Session) where
   -- an open object's reading
   abbrev readOpen : Object → Reading
   readOpen o = readObject (readings (s .closed)) o
 
-  abbrev pub historyOf : History
-  historyOf = record { limits = s .limits; opens = map readOpen (s .opens); closed = readings (s .closed) }
-
-  history-counts : tallyOf s ≡ counts historyOf
+  pub history-counts : tallyOf s ≡ counts (historyOf s)
   history-counts =
       let os = s .closed in
       let a = total-map readingSize readOpen sizeOf (read-size (readings os)) (s .opens) in
       let b = total-map fieldCount readOpen linkCount (read-count (readings os)) (s .opens) in
       let c = total-readings readingSize sizeOf read-size os in
       let d = total-readings fieldCount linkCount read-count os in
-      let held : tallyOf s .bytes ≡ counts historyOf .bytes = omega (arith, a, c) in
+      let held : tallyOf s .bytes ≡ counts (historyOf s) .bytes = omega (arith, a, c) in
       rw (held, b, d, readings-count os, length-map (s .opens) readOpen)
 
 -- ---- the invariant

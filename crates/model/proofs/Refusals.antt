@@ -1,8 +1,18 @@
--- How a verdict comes about.
-use mathlib.Core.Path.{_≡_, refl}
+-- How a verdict comes about, and the number that it tells.
+use mathlib.Core.Path.{_≡_, refl, sym}
+use Prim.Native.Nat.{ℕ, _≤_, _<_}
 use mathlib.Core.List.{List, [], _∷_}
-use mathlib.Core.Bool.{true, false}
-use Rattle.model.specs.Judge.{Verdict, accepted, refused, Test, verdict}
+use mathlib.Core.Bool.{Bool, true, false}
+use native.Mathlib.Omega.{arith}
+use borrow.Author.Tests.{leb-true}
+use lib.Dec.{leb}
+use Rattle.lists.specs.Lists.{pick, Exactly}
+use Rattle.lists.proofs.Same.{and-left}
+use Rattle.answer.specs.Number.{number}
+use Rattle.answer.specs.declared.tally.Tally.{Tally}
+use Rattle.answer.specs.declared.Refusal.the-variants as Refusal
+use Rattle.model.specs.Judge.{Limits, Verdict, accepted, refused, numberOf, lastNumber, Test, verdict, Tells, none as tells-none, this as tells-this, next as tells-next, closeTests}
+use Rattle.model.proofs.Verdicts.{number-range}
 
 -- tests that do not apply, and then one that does, or the end
 pub data Comes : List Test → Verdict → Type 0 where
@@ -15,3 +25,39 @@ unfolding verdict
 verdict-is none = refl
 verdict-is (this h) = rw h
 verdict-is (next h r) = rw h (verdict-is r)
+
+-- ---- the number that tests tell
+
+told-only : (ts : List Test) (k : ℕ) → numberOf (verdict ts) ≡ k → Tells ts k
+unfolding verdict
+told-only [] k e = tells-none (sym e)
+told-only (t ∷ ts) k e = go (t .applies) refl (told-only ts k) e
+  where
+    go : (b : Bool) → t .applies ≡ b → (numberOf (verdict ts) ≡ k → Tells ts k) → numberOf (pick b (refused (t .tells)) (verdict ts)) ≡ k → Tells (t ∷ ts) k
+    go true h r f = tells-this h (sym f)
+    go false h r f = tells-next h (r f)
+
+told-when : (ts : List Test) (k : ℕ) → Tells ts k → numberOf (verdict ts) ≡ k
+unfolding verdict
+told-when _ k (tells-none e) = sym e
+told-when _ k (tells-this h e) = rw h (sym e)
+told-when _ k (tells-next {ts = ts} h r) = rw h (told-when ts k r)
+
+-- a verdict tells a number exactly where the tests do
+pub told-exactly : (ts : List Test) (k : ℕ) → Exactly (numberOf (verdict ts) ≡ k) (Tells ts k)
+told-exactly ts k = record { only = told-only ts k; when = told-when ts k }
+
+pub told-most : (ts : List Test) {k : ℕ} → Tells ts k → k ≤ lastNumber
+told-most _ (tells-none e) = omega arith
+told-most _ (tells-this {t = t} h e) = omega (arith, number-range (t .tells) .1)
+told-most _ (tells-next {ts = ts} h r) = told-most ts r
+
+-- a duplicate is never told that the objects are full
+module _ (sound : Bool) (m : Limits) (t : Tally) (size twin : ℕ) (h : twin < t .objects) where
+  pub duplicate-closes : Tells (closeTests sound m t size twin) (number Refusal.ObjectsFull) → ⊥
+  duplicate-closes (tells-this _ e) = omega arith
+  duplicate-closes (tells-next _ (tells-this _ e)) = omega arith
+  duplicate-closes (tells-next _ (tells-next _ (tells-this _ e))) = omega arith
+  duplicate-closes (tells-next _ (tells-next _ (tells-next _ (tells-this a _)))) =
+      omega (arith, leb-true (t .objects) twin (and-left (leb (t .objects) twin) (leb (m .objects) (t .objects)) a))
+  duplicate-closes (tells-next _ (tells-next _ (tells-next _ (tells-next _ (tells-none e))))) = omega arith

@@ -1,5 +1,6 @@
 -- The layout theorem: of any order of the objects below a root, each once, parents first, in which every offset fits, the table shows the
--- root's reading from its first byte, every child lies behind its parent, and the length is the sum of the sizes.
+-- root's reading from its first byte, every field leads to the place of its child, every child lies behind its parent, and the length is
+-- the sum of the sizes.
 use mathlib.Core.Path.{_≡_, refl, sym, ap, _∙_}
 use Prim.Native.Nat.{ℕ, _+_, _-_, _≤_, _<_}
 use mathlib.Core.List.{List, [], _∷_, _++_, append-assoc}
@@ -13,19 +14,22 @@ use Rattle.field.specs.BigEndian.{fits, readBig}
 use Rattle.field.proofs.Laws.{big-read}
 use Rattle.model.specs.Bag.{count}
 use Rattle.model.specs.Object.{Link}
-use Rattle.model.specs.Graph.{Graph, kids, kidsOf, Closed, ParentsFirst, Rooted}
+use Rattle.model.specs.Graph.{Graph, Closed, ParentsFirst, Rooted}
+use Rattle.model.specs.Distance.{In, here, there}
 use Rattle.model.specs.Reading.{Reading, bytes, field, bytesOf, readLinks, Reads, Outside, Own, target, FieldsShow, Shows}
-use Rattle.model.specs.Table.{placeOf, offset, unfitLinks, unfitFrom, unfit, filled, objectBytes, tableFrom, tableOf, FieldsIn, Fields, Sized}
-use Rattle.model.proofs.Bags.{Same, same, other, sameOr, one-same, total-bag}
+use Rattle.model.specs.Table.{placeOf, offset, unfitLinks, unfitFrom, unfit, objectBytes, tableFrom, tableOf, Fields, Sized}
+use Rattle.model.specs.Laid.{LaidOut}
+use Rattle.model.proofs.Bags.{Same, same, other, sameOr, total-bag}
 use Rattle.model.proofs.Before.{before-here, before-next, before-behind, before-root}
-use Rattle.model.proofs.Filled.{wrote, length-wrote, Clear, length-filled, filled-clear, filled-field}
+use Rattle.model.proofs.Distances.{in-kids}
+use Rattle.model.proofs.Filled.{Clear, field-room, length-filled, filled-clear, filled-at}
 
 -- ---- the table around an object
 
 module _ (g : Graph) (content : ℕ → List ℕ) (place : ℕ → ℕ) (sized : Sized g content) (fs : Fields g) where
   pub object-length : (i : ℕ) → length (objectBytes g content place i) ≡ g .size i
   unfolding objectBytes Fields Sized
-  object-length i = length-filled (offset place i) 0 (g .size i) (g .links i) (content i) (sized i) (fs i)
+  object-length i = length-filled _ 0 (g .size i) (g .links i) (content i) (sized i) (fs i)
 
   pub table-length : (o : List ℕ) → length (tableFrom g content place o) ≡ total (g .size) o
   unfolding tableFrom total
@@ -70,10 +74,6 @@ module _ (a f c : List ℕ) (p : ℕ) (e : length a ≡ p) where
 
 -- ---- the links that fit
 
-unfoldable pub Fit : (Link → ℕ) → List Link → Type 0
-Fit off [] = Unit {0}
-Fit off (l ∷ ls) = (fits (l .width) (off l) ≡ true) × Fit off ls
-
 left-nil : (a b : List Overflow) → a ++ b ≡ [] → a ≡ []
 left-nil [] b e = refl
 left-nil (x ∷ a) b e = cc
@@ -82,24 +82,25 @@ right-nil : (a b : List Overflow) → a ++ b ≡ [] → b ≡ []
 right-nil [] b e = e
 right-nil (x ∷ a) b e = cc
 
-pub links-fit : (place : ℕ → ℕ) (p : ℕ) (ls : List Link) → unfitLinks place p ls ≡ [] → Fit (offset place p) ls
-unfolding unfitLinks Fit
-links-fit place p [] e = tt
-links-fit place p (l ∷ ls) e = go (links-fit place p ls) (fits (l .width) (offset place p l)) refl e
+pub links-fit : (place : ℕ → ℕ) (p : ℕ) (ls : List Link) → unfitLinks place p ls ≡ [] → (l : Link) → In l ls → fits (l .width) (offset place p l) ≡ true
+unfolding unfitLinks
+links-fit place p (m ∷ ls) e l i = go (links-fit place p ls) (fits (m .width) (offset place p m)) refl e i
   where
-    go : (unfitLinks place p ls ≡ [] → Fit (offset place p) ls) → (b : Bool) → fits (l .width) (offset place p l) ≡ b
-        → pick b (unfitLinks place p ls) (record { parent = record { 0 = p }; field = l .at; needed = offset place p l } ∷ unfitLinks place p ls) ≡ []
-        → (fits (l .width) (offset place p l) ≡ true) × Fit (offset place p) ls
-    go i true h f = (h, i f)
-    go i false h f = absurd (let z : _≡_ {A = ℕ} 0 1 = cc in omega arith)
+    go : (unfitLinks place p ls ≡ [] → (l : Link) → In l ls → fits (l .width) (offset place p l) ≡ true) → (b : Bool) → fits (m .width) (offset place p m) ≡ b
+        → pick b (unfitLinks place p ls) (record { parent = record { 0 = p }; field = m .at; needed = offset place p m } ∷ unfitLinks place p ls) ≡ []
+        → In l (m ∷ ls) → fits (l .width) (offset place p l) ≡ true
+    go r true h f (here q) = rw q h
+    go r true h f (there i) = r f l i
+    go r false h f i = absurd (let z : _≡_ {A = ℕ} 0 1 = cc in omega arith)
 
-pub objects-fit : (g : Graph) (place : ℕ → ℕ) (o : List ℕ) (i : ℕ) → 0 < count i o → unfitFrom g place o ≡ [] → Fit (offset place i) (g .links i)
+pub objects-fit : (g : Graph) (place : ℕ → ℕ) (o : List ℕ) (i : ℕ) → 0 < count i o → unfitFrom g place o ≡ []
+    → (l : Link) → In l (g .links i) → fits (l .width) (offset place i l) ≡ true
 unfolding unfitFrom count
-objects-fit g place [] i h e = absurd (omega arith)
-objects-fit g place (x ∷ o) i h e = go (objects-fit g place o i) (sameOr i x)
+objects-fit g place [] i h e l k = absurd (omega arith)
+objects-fit g place (x ∷ o) i h e l k = go (λ c d. objects-fit g place o i c d l k) (sameOr i x)
   where
-    go : (0 < count i o → unfitFrom g place o ≡ [] → Fit (offset place i) (g .links i)) → Same i x → Fit (offset place i) (g .links i)
-    go r (same f _ _) = rw f (links-fit place x (g .links x) (left-nil (unfitLinks place x (g .links x)) (unfitFrom g place o) e))
+    go : (0 < count i o → unfitFrom g place o ≡ [] → fits (l .width) (offset place i l) ≡ true) → Same i x → fits (l .width) (offset place i l) ≡ true
+    go r (same f _ _) = rw f (links-fit place x (g .links x) (left-nil (unfitLinks place x (g .links x)) (unfitFrom g place o) e) l (rw f at k))
     go r (other _ _ z) = r (omega arith) (right-nil (unfitLinks place x (g .links x)) (unfitFrom g place o) e)
 
 -- ---- readings
@@ -118,18 +119,35 @@ outside-clear ρ k (l ∷ ls) b h = (h .0, outside-clear ρ k ls b (h .1))
 
 module _ (g : Graph) (content : ℕ → List ℕ) (o : List ℕ) (ρ : ℕ → Reading) (sized : Sized g content) (fs : Fields g) (closed : Closed g o)
     (first : ParentsFirst g o) (fit : unfit g o ≡ []) (reads : Reads g content ρ) where
-  here : (i : ℕ) → 0 < count i o → Around g content (placeOf g o) sized fs o i
-  here i h = around g content (placeOf g o) sized fs o i h
+  lies : (i : ℕ) → 0 < count i o → Around g content (placeOf g o) sized fs o i
+  lies i h = around g content (placeOf g o) sized fs o i h
 
   object-room : (i : ℕ) → 0 < count i o → placeOf g o i + g .size i ≤ length (tableOf g content o)
-  unfolding tableOf here
+  unfolding tableOf lies
   object-room i h =
-      let a = here i h in
+      let a = lies i h in
       let b = objectBytes g content (placeOf g o) i in
       rw (a .whole) (omega (arith, length-append (a .front) (b ++ a .back), length-append b (a .back), object-length g content (placeOf g o) sized fs i, a .at))
 
+  -- a field of object i holds its offset
+  field-holds : (i : ℕ) → 0 < count i o → (l : Link) → In l (g .links i)
+      → readBig (part (placeOf g o i + l .at) (placeOf g o i + l .at + l .width) (tableOf g content o)) ≡ offset (placeOf g o) i l
+  unfolding tableOf objectBytes Fields Sized lies
+  field-holds i h l k =
+      let a = lies i h in
+      let b = objectBytes g content (placeOf g o) i in
+      let r = field-room 0 (g .size i) l (g .links i) (fs i) k in
+      ap readBig (rw (a .whole) (mid-part (a .front) b (a .back) (placeOf g o i) (a .at) (l .at) (l .width) (omega (arith, object-length g content (placeOf g o) sized fs i)))
+      ∙ filled-at (offset (placeOf g o) i) 0 (g .size i) l (g .links i) (content i) (sized i) (fs i) k)
+      ∙ big-read (l .width) (offset (placeOf g o) i l) (objects-fit g (placeOf g o) o i h fit l k)
+
+  -- and leads to the place of its child
+  leads : (i : ℕ) → 0 < count i o → (l : Link) → In l (g .links i) → target (tableOf g content o) (placeOf g o i) (l .at) (l .width) ≡ placeOf g o (l .child)
+  unfolding offset
+  leads i h l k = rw (field-holds i h l k) (omega (arith, before-behind (g .size) g o first i (l .child) h (in-kids l (g .links i) k)))
+
   own : (i : ℕ) → 0 < count i o → Own (tableOf g content o) (placeOf g o i) (ρ i)
-  unfolding tableOf Reads objectBytes Fields Sized here
+  unfolding tableOf Reads objectBytes Fields Sized lies
   own i h =
       let b = read-bytes ρ (g .links i) (content i) in
       rw (reads i) record {
@@ -139,62 +157,36 @@ module _ (g : Graph) (content : ℕ → List ℕ) (o : List ℕ) (ρ : ℕ → R
     where
       same-byte : (k : ℕ) → k < length (content i) → Clear k (g .links i) → getD (tableFrom g content (placeOf g o) o) (placeOf g o i + k) 0 ≡ getD (content i) k 0
       same-byte k m c =
-          let a = here i h in
+          let a = lies i h in
           rw (a .whole) (mid-getD (a .front) (objectBytes g content (placeOf g o) i) (a .back) (placeOf g o i) (a .at) k (omega (arith, object-length g content (placeOf g o) sized fs i, sized i))
           ∙ filled-clear (offset (placeOf g o) i) 0 (g .size i) k (g .links i) (content i) (sized i) (fs i) c)
 
-  -- a field of object i, where those before it are written over its bytes: bs
-  field-holds : (i : ℕ) → 0 < count i o → (from : ℕ) (l : Link) (ls : List Link) (bs : List ℕ) → length bs ≡ g .size i → FieldsIn from (g .size i) (l ∷ ls)
-      → objectBytes g content (placeOf g o) i ≡ filled (offset (placeOf g o) i) (l ∷ ls) bs → fits (l .width) (offset (placeOf g o) i l) ≡ true
-      → readBig (part (placeOf g o i + l .at) (placeOf g o i + l .at + l .width) (tableOf g content o)) ≡ offset (placeOf g o) i l
-  unfolding tableOf FieldsIn here
-  field-holds i h from l ls bs e f w u =
-      let a = here i h in
-      ap readBig (rw (a .whole) (mid-part (a .front) (objectBytes g content (placeOf g o) i) (a .back) (placeOf g o i) (a .at) (l .at) (l .width) (omega (arith, f .1, object-length g content (placeOf g o) sized fs i)))
-      ∙ ap (λ (z : List ℕ). part (l .at) (l .at + l .width) z) w
-      ∙ filled-field (offset (placeOf g o) i) from (g .size i) l ls bs e f)
-      ∙ big-read (l .width) (offset (placeOf g o) i l) u
-
-  field-leads : (i : ℕ) → 0 < count i o → (from : ℕ) (l : Link) (ls : List Link) (bs : List ℕ) → length bs ≡ g .size i → FieldsIn from (g .size i) (l ∷ ls)
-      → objectBytes g content (placeOf g o) i ≡ filled (offset (placeOf g o) i) (l ∷ ls) bs → fits (l .width) (offset (placeOf g o) i l) ≡ true
-      → placeOf g o i ≤ placeOf g o (l .child) → target (tableOf g content o) (placeOf g o i) (l .at) (l .width) ≡ placeOf g o (l .child)
-  unfolding offset
-  field-leads i h from l ls bs e f w u b = rw (field-holds i h from l ls bs e f w u) (omega arith)
-
-  fields-show : (r : Reading) (i : ℕ) → 0 < count i o → (from : ℕ) (ls : List Link) (bs : List ℕ) → length bs ≡ g .size i → FieldsIn from (g .size i) ls
-      → objectBytes g content (placeOf g o) i ≡ filled (offset (placeOf g o) i) ls bs → Fit (offset (placeOf g o) i) ls
-      → ((c : ℕ) → 0 < count c (kidsOf ls) → 0 < count c (kids g i))
+  -- ls are the links left
+  fields-show : (r : Reading) (i : ℕ) → 0 < count i o → (ls : List Link) → ((l : Link) → In l ls → In l (g .links i))
       → r ≡ readLinks ρ ls (content i) → FieldsShow (tableOf g content o) (placeOf g o i) r
-  unfolding FieldsShow readLinks filled FieldsIn Fit kidsOf count Fields Reads Closed objectBytes Sized wrote
-  fields-show (bytes b) i h from ls bs e f w u k q = tt
-  fields-show (field a v c r) i h from [] bs e f w u k q = absurd (let z : _≡_ {A = ℕ} 0 1 = cc in omega arith)
-  fields-show (field a v c r) i h from (l ∷ ls) bs e f w u k q =
+  unfolding FieldsShow readLinks Fields Reads Closed
+  fields-show (bytes b) i h ls k q = tt
+  fields-show (field a v c r) i h [] k q = absurd (let z : _≡_ {A = ℕ} 0 1 = cc in omega arith)
+  fields-show (field a v c r) i h (l ∷ ls) k q =
       let x = l .child in
       let ea : a ≡ l .at = cc in
       let ev : v ≡ l .width = cc in
       let ec : c ≡ ρ x = cc in
       let er : r ≡ readLinks ρ ls (content i) = cc in
-      let kx : 0 < count x (kids g i) = k x (omega (arith, one-same x)) in
-      let hx : 0 < count x o = closed i x h kx in
-      let tg : target (tableOf g content o) (placeOf g o i) a v ≡ placeOf g o x =
-      rw (ea, ev) (field-leads i h from l ls bs e f w (u .0) (omega (arith, before-behind (g .size) g o first i x h kx))) in (
-        rw (ea, ev) (omega (arith, object-room i h, f .1)),
+      let kl = k l (here refl) in
+      let hx : 0 < count x o = closed i x h (in-kids l (g .links i) kl) in
+      let tg : target (tableOf g content o) (placeOf g o i) a v ≡ placeOf g o x = rw (ea, ev) (leads i h l kl) in (
+        rw (ea, ev) (omega (arith, object-room i h, field-room 0 (g .size i) l (g .links i) (fs i) kl)),
         rw (tg, ec) (own x hx),
-        rw tg (fields-show c x hx 0 (g .links x) (content x) (sized x) (fs x) refl (objects-fit g (placeOf g o) o x hx fit) (λ z m. m) (ec ∙ reads x)),
-        fields-show r i h (l .at + l .width) ls (wrote (offset (placeOf g o) i) l bs) (length-wrote (offset (placeOf g o) i) l bs (omega (arith, f .1)) ∙ e) (f .2) w (u .1) (λ z m. k z (omega arith)) er,
+        rw tg (fields-show c x hx (g .links x) (λ m j. j) (ec ∙ reads x)),
+        fields-show r i h ls (λ m j. k m (there j)) er,
       )
 
   pub shows : (i : ℕ) → 0 < count i o → Shows (tableOf g content o) (placeOf g o i) (ρ i)
-  unfolding Fields Reads objectBytes Sized
-  shows i h = (own i h, fields-show (ρ i) i h 0 (g .links i) (content i) (sized i) (fs i) refl (objects-fit g (placeOf g o) o i h fit) (λ z m. m) (reads i))
+  unfolding Reads
+  shows i h = (own i h, fields-show (ρ i) i h (g .links i) (λ m j. j) (reads i))
 
 -- ---- the theorem
-
-pub record LaidOut (g : Graph) (nodes : List ℕ) (root : ℕ) (ρ : ℕ → Reading) (o t : List ℕ) : Type 0 where
-  pub shown : Shows t 0 (ρ root)
-  pub each : (i : ℕ) → 0 < count i nodes → Shows t (placeOf g o i) (ρ i)
-  pub sum : length t ≡ total (g .size) nodes
-  pub behind : (p c : ℕ) → 0 < count p nodes → 0 < count c (kids g p) → placeOf g o p + g .size p ≤ placeOf g o c
 
 pub layout : (g : Graph) (content : ℕ → List ℕ) (nodes : List ℕ) (root : ℕ) (ρ : ℕ → Reading) (o : List ℕ) → Rooted g nodes root → Sized g content → Fields g → Reads g content ρ
     → ((c : ℕ) → count c o ≡ count c nodes) → ParentsFirst g o → unfit g o ≡ [] → LaidOut g nodes root ρ o (tableOf g content o)
@@ -203,6 +195,7 @@ layout g content nodes root ρ o r sized fs reads bag first fit = record {
   each = all;
   sum = unfold tableOf in (table-length g content (placeOf g o) sized fs o ∙ total-bag (g .size) o nodes bag);
   behind = λ p c h k. before-behind (g .size) g o first p c (omega (arith, bag p)) k;
+  leads = λ p l h k. leads g content o ρ sized fs closed first fit reads p (omega (arith, bag p)) l k;
 }
   where
     closed : Closed g o

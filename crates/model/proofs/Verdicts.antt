@@ -1,6 +1,6 @@
 -- What an accepted call says of its tests, and what a refusal comes with.
 use mathlib.Core.Path.{_≡_, refl}
-use Prim.Native.Nat.{ℕ, zero, suc, _<_}
+use Prim.Native.Nat.{ℕ, zero, suc, _≤_, _<_}
 use mathlib.Core.List.{List, [], _∷_}
 use mathlib.Core.Bool.{Bool, true, false}
 use native.Mathlib.Omega.{arith}
@@ -11,7 +11,7 @@ use Rattle.answer.specs.Number.{number, beside, noTally}
 use Rattle.answer.specs.declared.tally.Tally.{Tally}
 use Rattle.answer.specs.declared.Refusal.{Refusal}
 use Rattle.answer.specs.declared.Refusal.the-variants as Refusal
-use Rattle.model.specs.Judge.{accepted, refused, Test, when, verdict}
+use Rattle.model.specs.Judge.{accepted, refused, lastNumber, Test, when, verdict}
 
 -- no test of an accepted call applies
 pub passes : (ts : List Test) → verdict ts ≡ accepted → (i : ℕ) → getD ts i (when false Refusal.Unsound) .applies ≡ false
@@ -41,18 +41,22 @@ beside-number (Refusal.Overflow o) t = refl
 beside-number Refusal.Unsound t = refl
 beside-number Refusal.OutOfRange t = refl
 
+-- the number of a refusal is from 1 to the last
+pub number-range : (why : Refusal) → (0 < number why) × (number why ≤ lastNumber)
+number-range Refusal.NothingOpen = (omega arith, omega arith)
+number-range Refusal.DepthFull = (omega arith, omega arith)
+number-range Refusal.BadWidth = (omega arith, omega arith)
+number-range Refusal.NotClosed = (omega arith, omega arith)
+number-range Refusal.EmptyObject = (omega arith, omega arith)
+number-range Refusal.StoreFull = (omega arith, omega arith)
+number-range Refusal.LinksFull = (omega arith, omega arith)
+number-range Refusal.ObjectsFull = (omega arith, omega arith)
+number-range Refusal.ObjectOpen = (omega arith, omega arith)
+number-range Refusal.OutputShort = (omega arith, omega arith)
+number-range (Refusal.Overflow o) = (omega arith, omega arith)
+number-range Refusal.Unsound = (omega arith, omega arith)
+number-range Refusal.OutOfRange = (omega arith, omega arith)
+
 -- 0 is no refusal's number
 pub refused-number : (why : Refusal) → 0 < number why
-refused-number Refusal.NothingOpen = omega arith
-refused-number Refusal.DepthFull = omega arith
-refused-number Refusal.BadWidth = omega arith
-refused-number Refusal.NotClosed = omega arith
-refused-number Refusal.EmptyObject = omega arith
-refused-number Refusal.StoreFull = omega arith
-refused-number Refusal.LinksFull = omega arith
-refused-number Refusal.ObjectsFull = omega arith
-refused-number Refusal.ObjectOpen = omega arith
-refused-number Refusal.OutputShort = omega arith
-refused-number (Refusal.Overflow o) = omega arith
-refused-number Refusal.Unsound = omega arith
-refused-number Refusal.OutOfRange = omega arith
+refused-number why = number-range why .0

@@ -92,7 +92,7 @@ module _ {b w : List ℕ} {s : Span} (objects : ℕ) (e : objects ≡ objectLimi
 
 module _ {b w : List ℕ} {s : State} (r : Read b w s) where
   pub tested : Tested b w (s .objects)
-  tested = record { head = sound-head b w (r .isSound); tables = sound-tests b w (r .isSound); objectsIs = r .objectsIs; room = omega arith; within = omega arith }
+  tested = record { head = sound-head b w (r .isSound); tables = sound-tests b w (r .isSound); objectsIs = r .objectsIs; room = omega arith; within = omega arith; few = r .bounds .few }
 
   pub ground : {own : Span} {o : Runs} → o ≡ runsOf (s .objects) own → Lies b w (openAt b w (s .depth - 1)) own → Ground b w (s .objects) (s .closed) o
   ground z l = record { tested = tested; closedIs = r .closedIs; innerRuns = has-runs (s .objects) (r .objectsIs) z (rw (r .depthIs) at l) }

@@ -48,10 +48,6 @@ module _ {b w : List ℕ} {s : State} {t : Tally} (h : Held b w s t) where
   pub one-more : s .closed < s .objects → 0 < s .depth → (t .objects < 4096) × (0 < t .depth)
   one-more k some = (omega arith, omega arith)
 
-  -- a closed object's id
-  pub id-small : {id : ℕ} → id < t .objects → id < 4096
-  id-small k = omega arith
-
 -- ---- the innermost open object: a number read below the last entry of a table of ends
 
 rising-last : (base n : ℕ) (w : List ℕ) → Rising base n w → 0 < n → getD w (base + (n - 1)) 0 ≤ getD w (base + n) 0

@@ -14,3 +14,4 @@ pub mod Runs
 pub mod Held
 pub mod Works
 pub mod Packs
+pub mod Formed

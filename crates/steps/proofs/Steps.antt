@@ -8,8 +8,8 @@ use native.Mathlib.Omega.{arith}
 use borrow.Author.Tests.{leb-false, ltb-false, eqb-false, not-false, le-leb}
 use lib.Dec.{ltb}
 use lib.ListN.{length, replicate}
-use Rattle.lists.specs.Lists.{pick, holds}
-use Rattle.answer.specs.Number.{number, beside, noTally}
+use Rattle.lists.specs.Lists.{pick}
+use Rattle.answer.specs.Number.{beside, noTally}
 use Rattle.answer.specs.declared.tally.Tally.{Tally}
 use Rattle.answer.specs.declared.Refusal.{Refusal}
 use Rattle.answer.specs.declared.Refusal.the-variants as Refusal
@@ -144,7 +144,7 @@ module _ (b w : List ℕ) (h : sound b w ≡ true) where
           (leaves-follow (closedCount w)
           (seal-leaves known k (some-bytes (eqb-false _ _ (passes _ e 2))) (leb-false (objectLimit w) (closedCount w) (rw (le-leb _ _ j) at full))))
 
-  step-follows : (work : Limits → ℕ) (c : StoreCall) → Follows s (stepOn c s) (step (needsWith work) (asCall s c) a)
+  step-follows : (work : Limits → ℕ) (c : StoreCall) → Follows s (stepOn c s) (step (needsWith work) (asCall (length (s .bytes)) (length (s .words)) c) a)
   unfolding stepOn asCall step startStep openStep putStep linkStep closeStep dropStep tallyStep
   step-follows work (start objects links) =
       let m : Limits = limitsOf objects links b in
@@ -175,8 +175,8 @@ module _ (b w : List ℕ) (h : sound b w ≡ true) where
 
 -- ---- the theorems
 
-pub step-drawn : (work : Limits → ℕ) (c : StoreCall) (s : Stores) (a : Session) → Drawn s a → Follows s (stepOn c s) (step (needsWith work) (asCall s c) a)
-step-drawn work c s a d = subst (λ x. Follows s (stepOn c s) (step (needsWith work) (asCall s c) x)) (d .holds) (step-follows (s .bytes) (s .words) (d .isSound) work c)
+pub step-drawn : (work : Limits → ℕ) (c : StoreCall) (s : Stores) (a : Session) → Drawn s a → Follows s (stepOn c s) (step (needsWith work) (asCall (length (s .bytes)) (length (s .words)) c) a)
+step-drawn work c s a d = subst (λ x. Follows s (stepOn c s) (step (needsWith work) (asCall (length (s .bytes)) (length (s .words)) c) x)) (d .holds) (step-follows (s .bytes) (s .words) (d .isSound) work c)
 
 -- an accepted start, whatever the stores held
 pub start-drawn : (objects links : ℕ) (s : Stores) → stepOn (start objects links) s .told .number ≡ 0

@@ -83,7 +83,7 @@ module _ {b w : List ℕ} (s : Sound b w) where
       let t = sound-tables s .linkEnds in
       size-links _ _ (t .next i h) (omega (arith, t .under i h))
 
-  closed-size : (i : ℕ) → i < closedCount w → getD w (beginsAt + i + 1) 0 + sizeOf (closedAt b w i) ≡ getD w (beginsAt + i) 0
+  pub closed-size : (i : ℕ) → i < closedCount w → getD w (beginsAt + i + 1) 0 + sizeOf (closedAt b w i) ≡ getD w (beginsAt + i) 0
   closed-size i h =
       let t = sound-tables s .begins in
       size-part _ _ b (omega (arith, t .next i h)) (omega (arith, t .under i (omega arith)))
@@ -113,14 +113,6 @@ pub count-decode : (b w : List ℕ) → closedCount w ≡ length (decode b w .cl
 unfolding decode
 count-decode b w = sym (length-closed b w (closedCount w))
 
-pub depth-decode : (b w : List ℕ) → openDepth w ≡ length (decode b w .opens)
-unfolding decode
-depth-decode b w = sym (length-opens b w (openDepth w))
-
 pub limits-decode : (b w : List ℕ) → limitsIn w ≡ decode b w .limits
 unfolding decode
 limits-decode b w = refl
-
-pub bytes-decode : (b w : List ℕ) → sound b w ≡ true → decode b w .limits .bytes ≡ length b
-unfolding decode
-bytes-decode b w h = sound-facts b w h .head .size

@@ -1,19 +1,20 @@
 -- Each way through a call's code, as the call's definition has it.
 use mathlib.Core.Path.{_≡_}
 use Prim.Native.Nat.{ℕ, suc, _+_, _-_, _*_, _≤_, _<_}
-use mathlib.Core.List.{List, _∷_, append-assoc}
+use mathlib.Core.List.{List, [], _∷_, append-assoc}
 use mathlib.Core.Bool.{Bool, true, false, not, _&&_, and-assoc, and-true, false≢true}
 use native.Mathlib.Decide.{decLe}
-use native.Mathlib.Nat.{sub-zero}
+use native.Mathlib.Nat.{sub-zero, add-zero}
 use native.Mathlib.Numerals.{add-one}
 use native.Mathlib.Omega.{arith}
 use borrow.Author.Tests.{eq-eqb, ne-eqb, le-leb, lt-leb, lt-ltb, le-ltb, leb-true, not-false}
 use lib.ListN.{length, set, replicate, length-replicate}
-use lib.Seq.{sets-eq}
+use lib.Seq.{set-getD, sets-eq}
 use lib.Dec.{leb, ltb}
 use Rattle.lists.specs.Lists.{over, holds}
 use Rattle.lists.proofs.Holds.{holds-at}
 use Rattle.lists.proofs.Same.{and-left, and-right}
+use Rattle.lists.proofs.Runs.{over-none}
 use Rattle.lists.proofs.Whole.{over-whole}
 use Rattle.answer.specs.Number.{noTally, beside}
 use Rattle.answer.specs.Tally.{opened, grown, released}
@@ -22,14 +23,16 @@ use Rattle.answer.specs.declared.Refusal.{Refusal}
 use Rattle.answer.specs.declared.Refusal.the-variants as Refusal
 use Rattle.answer.specs.declared.Answer.the-variants.{Done, Refused}
 use Rattle.model.specs.Object.{Link, widthOk}
+use Rattle.model.specs.Told.{done, refusedTold}
 use Rattle.model.specs.Judge.{mostObjects, mostLinks, mostBytes, mostOpen, Verdict, accepted, refused, Test, verdict, unsound, nothingOpen, inRange}
 use Rattle.model.proofs.Refusals.{Comes, none, this, next, verdict-is}
 use Rattle.layout.specs.declared.state.State.{State}
 use Rattle.layout.specs.Words.{closedCount, openDepth, endsAt, linkEndsAt, linksAt, linkWords, need, storeLength, linkLimit, top, linkTop, wordsOf}
 use Rattle.layout.specs.Sound.{sound}
 use Rattle.layout.specs.Known.{Read}
-use Rattle.layout.proofs.Facts.{sound-known}
-use Rattle.steps.specs.Steps.{Out, outcome, tallyIn, settle, limitsOf, startWords, startStep, openStep, putStep, under, linkUnder, linkWordsOf, linkStep, droppedBytes, droppedWords, dropStep, tallyStep}
+use Rattle.layout.proofs.Facts.{sound-facts, sound-known}
+use Rattle.steps.specs.Steps.{Out, outcome, tallyIn, settle, limitsOf, startWords, startStep, openStep, putStep, under, linkUnder, linkWordsOf, linkStep, closeStep, droppedBytes, droppedWords, dropStep, tallyStep}
+use Rattle.steps.specs.Runs.{StoreCall, start, open', put, link, close, drop, tally, stores, left, stepOn}
 use Rattle.steps.proofs.Held.{Held}
 
 -- ---- by a verdict
@@ -41,10 +44,27 @@ settle-refused : {ts : List Test} {why : Refusal} {b w : List ℕ} {t : Tally} (
     → outcome (Refused why t) b w ≡ settle (verdict ts) b w out
 settle-refused out c e = rw (verdict-is c, e)
 
--- stores that are not sound
-pub unsound-told : (ts : List Test) {b w : List ℕ} (out : Out) {t : Tally} → t ≡ noTally → sound b w ≡ false
-    → outcome (Refused Refusal.Unsound t) b w ≡ settle (verdict (unsound (sound b w) ∷ ts)) b w out
-unsound-told ts out e h = settle-refused out (this (rw h)) e
+-- ---- stores that are not sound
+
+-- only a start asks nothing of what the stores hold
+abbrev asks : StoreCall → Bool
+asks (start objects links) = false
+asks open' = true
+asks (put vs) = true
+asks (link width id) = true
+asks close = true
+asks drop = true
+asks tally = true
+
+pub unsound-told : {b w : List ℕ} {t : Tally} (c : StoreCall) → asks c ≡ true → t ≡ noTally → sound b w ≡ false → left (refusedTold Refusal.Unsound t) b w ≡ stepOn c (stores b w)
+unfolding stepOn openStep putStep linkStep closeStep dropStep tallyStep verdict
+unsound-told (start objects links) k e h = absurd (false≢true k)
+unsound-told open' k e h = rw (h, e)
+unsound-told (put vs) k e h = rw (h, e)
+unsound-told (link width id) k e h = rw (h, e)
+unsound-told close k e h = rw (h, e)
+unsound-told drop k e h = rw (h, e)
+unsound-told tally k e h = rw (h, e)
 
 -- ---- start
 
@@ -207,3 +227,11 @@ pub append-done : {b w : List ℕ} {s : State} {from : ℕ} (width child : ℕ) 
 append-done {w = w} width child r h e =
     rw (e, r .objectsIs, r .linkTopIs, r .topIs, r .depthIs)
     (rw (link-stored (linksAt w + linkTop w * linkWords) (record { at = top w - under w; width = width; child = child }) w (omega arith)))
+
+-- a put of no bytes with an object open is accepted and changes nothing
+pub put-nothing : (b w : List ℕ) → sound b w ≡ true → 0 < openDepth w → stepOn (put []) (stores b w) ≡ left (done (tallyIn b w)) b w
+unfolding stepOn putStep verdict
+put-nothing b w h k =
+    let s = sound-facts b w h in
+    rw (h, ne-eqb (openDepth w) 0 (λ e. omega arith), le-ltb (storeLength w) (tallyIn b w .bytes + 0) (omega arith))
+    (simp (add-zero, over-none, set-getD w (endsAt + openDepth w) 0))

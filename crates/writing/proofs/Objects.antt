@@ -26,7 +26,7 @@ use Rattle.copying.specs.Copy.{graphEnd}
 use Rattle.writing.specs.Write.{Writing, orderIn, tableIn}
 use Rattle.lists.proofs.Overs.{over-then, over-lent}
 use Rattle.model.proofs.Written.{filled-same, count-at, before-at}
-use Rattle.copying.proofs.Formed.{decoded-at, sound-fields}
+use Rattle.steps.proofs.Formed.{decoded-at, sound-fields}
 use Rattle.copying.proofs.Standing.{tidy-read}
 
 -- the sizes and links of the closed objects

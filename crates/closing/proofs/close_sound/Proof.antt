@@ -68,22 +68,22 @@ word-requires-2 c κs = search needs
 find-requires : tie.Need-find-requires
 find-requires c κs = search needs
 
+cast-if3 : tie.Need-cast-if3
+cast-if3 c = search needs
+
 forget-requires : tie.Need-forget-requires
 forget-requires c κs =
-    let k = inner (c .before .before .before .before .before .before .before) in
+    let k = inner (c .before .before .before .before .before .before .before .before) in
     (k .held .counts, k .some, k .bytes .is, k .bytes .order)
 
-cast-t32 : tie.Need-cast-t32
-cast-t32 c = search needs
-
 sub-discard : tie.Need-sub-discard
-sub-discard c = omega (arith, inner (c .before .before .before .before .before .before .before .before .before .before .before .before))
+sub-discard c = omega (arith, inner (c .before .before .before .before .before .before .before .before .before .before .before .before .before))
 
 sub-discard-2 : tie.Need-sub-discard-2
-sub-discard-2 c = inner (c .before .before .before .before .before .before .before .before .before .before .before .before .before) .links .order
+sub-discard-2 c = inner (c .before .before .before .before .before .before .before .before .before .before .before .before .before .before) .links .order
 
 discard-requires : tie.Need-discard-requires
-discard-requires c κs = omega (arith, inner (c .before .before .before .before .before .before .before .before .before .before .before .before .before))
+discard-requires c κs = omega (arith, inner (c .before .before .before .before .before .before .before .before .before .before .before .before .before .before))
 
 same-length-5 : tie.Need-same-length-5
 same-length-5 c = search needs
@@ -95,7 +95,7 @@ returns-3 : tie.Need-returns-3
 returns-3 c =
     let f = c .before .before .before .before .before .before in
     let d = f .before .before .before in
-    let i = d .before .before in
+    let i = d .before .before .before in
     rw (c .discard .ensures, f .forget .ensures .0, f .forget .ensures .1) (close-twin (inner (i .before .before .before)) (i .find .ensures) (d .if3 .taken))
 
 same-length-7 : tie.Need-same-length-7
@@ -107,21 +107,18 @@ same-length-8 c = refl
 returns-4 : tie.Need-returns-4
 returns-4 c =
     let d = c .before .before in
-    let i = d .before .before in
+    let i = d .before .before .before in
     close-full (inner (i .before .before .before)) (i .find .ensures) (d .if3 .left) (c .if4 .taken)
 
 seal-requires : tie.Need-seal-requires
 seal-requires c κs =
     let n = c .before .before in
-    sealing (inner (n .before .before .before .before .before .before .before)) (n .if4 .left)
-
-cast-t43 : tie.Need-cast-t43
-cast-t43 c = omega (arith, inner (c .before .before .before .before .before .before .before .before .before .before .before .before .before .before .before))
+    sealing (inner (n .before .before .before .before .before .before .before .before)) (n .if4 .left)
 
 add-requires : tie.Need-add-requires
 add-requires c κs =
-    let n = c .before .before .before .before .before .before .before .before in
-    let k = inner (n .before .before .before .before .before .before .before) in
+    let n = c .before .before .before .before .before .before .before in
+    let k = inner (n .before .before .before .before .before .before .before .before) in
     one-more (k .held) (n .if4 .left) (k .some)
 
 same-length-9 : tie.Need-same-length-9
@@ -132,10 +129,10 @@ same-length-10 c = search needs
 
 returns-5 : tie.Need-returns-5
 returns-5 c =
-    let w = c .before .before .before .before .before .before in
+    let w = c .before .before .before .before .before in
     let n = w .before .before .before in
     let d = n .before .before in
-    let i = d .before .before in
+    let i = d .before .before .before in
     rw (c .add .ensures, w .seal .ensures .0, w .seal .ensures .1) (close-new (inner (i .before .before .before)) (i .find .ensures) (d .if3 .left) (n .if4 .left))
 
 pub close-sound-spec : {M : Type 1} → statement M
@@ -157,8 +154,8 @@ close-sound-spec =
     add-word-2
     word-requires-2
     find-requires
+    cast-if3
     forget-requires
-    cast-t32
     sub-discard
     sub-discard-2
     discard-requires
@@ -169,7 +166,6 @@ close-sound-spec =
     same-length-8
     returns-4
     seal-requires
-    cast-t43
     add-requires
     same-length-9
     same-length-10

@@ -30,6 +30,9 @@ mul-i-2 c = search needs
 add-i-2 : tie.Need-add-i-2
 add-i-2 c = search needs
 
+cast-child : tie.Need-cast-child
+cast-child c = search needs
+
 store-requires : tie.Need-store-requires
 store-requires c κs = search needs
 
@@ -55,13 +58,13 @@ store-requires-4 : tie.Need-store-requires-4
 store-requires-4 c κs = search needs
 
 add-store-5 : tie.Need-add-store-5
-add-store-5 c = omega (arith, c .before .before .before .before .before .before .before .before .before .before .before .before .before .before .before .before .before .before .before .before .before .before .before .pre .0)
+add-store-5 c = omega (arith, c .before .before .before .before .before .before .before .before .before .before .before .before .before .before .before .before .before .before .before .before .before .before .before .before .pre .0)
 
 add-store-6 : tie.Need-add-store-6
-add-store-6 c = omega (arith, c .before .before .before .before .before .before .before .before .before .before .before .before .before .before .before .before .before .before .before .before .before .before .before .before .pre .0)
+add-store-6 c = omega (arith, c .before .before .before .before .before .before .before .before .before .before .before .before .before .before .before .before .before .before .before .before .before .before .before .before .before .pre .0)
 
 store-requires-5 : tie.Need-store-requires-5
-store-requires-5 c κs = omega (arith, c .before .before .before .before .before .before .before .before .before .before .before .before .before .before .before .before .before .before .before .before .before .before .before .before .pre .0)
+store-requires-5 c κs = omega (arith, c .before .before .before .before .before .before .before .before .before .before .before .before .before .before .before .before .before .before .before .before .before .before .before .before .before .pre .0)
 
 same-length : tie.Need-same-length
 same-length c = search needs
@@ -73,7 +76,7 @@ returns c =
     let s3 = s4 .before .before .before .before in
     let s2 = s3 .before .before .before .before in
     let s1 = s2 .before .before .before .before in
-    let k = s1 .before .before .before .before in
+    let k = s1 .before .before .before .before .before in
     let p = k .before .before .before .before .pre in
     rw (s5 .store5 .ensures, s4 .store4 .ensures, s3 .store3 .ensures, s2 .store2 .ensures, s1 .store .ensures)
     (append-done _ _ (p .0) (p .2) (inner-from (p .0) (omega (arith, p .0, p .1)) (k .word .ensures .0) .is))
@@ -90,6 +93,7 @@ append-link-spec =
     add-i
     mul-i-2
     add-i-2
+    cast-child
     store-requires
     add-store
     store-requires-2

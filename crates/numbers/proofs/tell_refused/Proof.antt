@@ -1,6 +1,4 @@
 -- The refusal's number and the link it names, beside the tally.
-use mathlib.Core.Path.{_∙_}
-use Rattle.numbers.proofs.Same.{same-numbers}
 use borrow.Author.Needs.{needs}
 use Rattle.numbers.proofs.tell_refused.Statement.{statement}
 use Rattle.numbers.proofs.tell_refused.Tie as tie
@@ -15,7 +13,7 @@ ten-requires : tie.Need-ten-requires
 ten-requires c κs = search needs
 
 returns : tie.Need-returns
-returns c = c .ten .ensures ∙ same-numbers _ _ _ (c .before .before .number-of .ensures) (c .before .named-by .ensures)
+returns c = rw (← c .before .before .number-of .ensures, ← c .before .named-by .ensures) (c .ten .ensures)
 
 pub tell-refused-spec : {M : Type 1} → statement M
 tell-refused-spec = tie.close (tie.spec number-of-requires named-by-requires ten-requires returns)

@@ -1,6 +1,7 @@
 -- By whether the stores are sound.
 use borrow.Author.Needs.{needs}
-use mathlib.Core.Path.{sym, _∙_}
+use mathlib.Core.Path.{ap, sym, _∙_}
+use Rattle.steps.specs.Runs.{leftByPack, lentStep}
 use Rattle.steps.proofs.Packs.{pack-unsound}
 use Rattle.packer.proofs.pack.Statement.{statement}
 use Rattle.packer.proofs.pack.Tie as tie
@@ -18,13 +19,15 @@ same-length-2 : tie.Need-same-length-2
 same-length-2 c = search needs
 
 returns : tie.Need-returns
-returns c = search needs
+unfolding lentStep
+returns c = ap (leftByPack _) (c .before .before .before .before .pack-sound .ensures)
 
 none-requires : tie.Need-none-requires
 none-requires c κs = search needs
 
 returns-2 : tie.Need-returns-2
-returns-2 c = pack-unsound _ _ _ _ _ (c .none .ensures) (sym (c .before .before .is-sound .ensures) ∙ c .before .if1 .left)
+unfolding lentStep
+returns-2 c = ap (leftByPack _) (pack-unsound _ _ _ _ _ (c .none .ensures) (sym (c .before .before .is-sound .ensures) ∙ c .before .if1 .left))
 
 pub pack-spec : {M : Type 1} → statement M
 pack-spec =

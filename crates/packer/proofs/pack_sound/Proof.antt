@@ -15,9 +15,6 @@ tally-of-requires c κs =
     let b = c .read .ensures .bounds in
     (b .apart, b .inside, b .most, b .linkApart, b .linkInside, b .fewLinks)
 
-cast-root : tie.Need-cast-root
-cast-root c = search needs
-
 cast-work-need : tie.Need-cast-work-need
 cast-work-need c = search needs
 
@@ -33,27 +30,30 @@ none-requires c κs = search needs
 returns : tie.Need-returns
 returns c =
     let n = c .before .before in
-    let k = n .before .before .before .before in
+    let k = n .before .before .before in
     pack-little (held (k .before .read .ensures) (k .tally-of .ensures)) _ _ _ (c .none .ensures) (rw (n .work-need .ensures) at (c .before .if1 .taken))
 
 returns-2 : tie.Need-returns-2
 returns-2 c =
     let n = c .before .before .before in
-    let k = n .before .before .before .before in
+    let k = n .before .before .before in
     pack-open (held (k .before .read .ensures) (k .tally-of .ensures)) _ _ _ (rw (n .work-need .ensures) at (c .before .before .if1 .left)) (omega (arith, c .if2 .taken))
+
+cast-if3 : tie.Need-cast-if3
+cast-if3 c = search needs
 
 returns-3 : tie.Need-returns-3
 returns-3 c =
-    let i = c .before .before .before .before in
+    let i = c .before .before .before .before .before in
     let n = i .before in
-    let k = n .before .before .before .before in
-    pack-unknown (held (k .before .read .ensures) (k .tally-of .ensures)) _ _ _ (rw (n .work-need .ensures) at (i .if1 .left)) (c .before .before .if2 .left) (omega (arith, c .if3 .taken))
+    let k = n .before .before .before in
+    pack-unknown (held (k .before .read .ensures) (k .tally-of .ensures)) _ _ _ (rw (n .work-need .ensures) at (i .if1 .left)) (c .before .before .before .if2 .left) (omega (arith, c .if3 .taken))
 
 pack-graph-requires : tie.Need-pack-graph-requires
 pack-graph-requires c κs =
-    let i = c .before .before .before .before .before .before in
+    let i = c .before .before .before .before .before .before .before in
     let n = i .before in
-    let k = n .before .before .before .before in
+    let k = n .before .before .before in
     packable (held (k .before .read .ensures) (k .tally-of .ensures)) (rw (n .work-need .ensures) at (i .if1 .left)) (c .before .before .if3 .left)
 
 mul-clear : tie.Need-mul-clear
@@ -79,10 +79,10 @@ returns-4 c =
     let l = c .before .before in
     let q = l .before .before .before .before .before .before .before .before in
     let j = q .before .before .before in
-    let i = j .before .before .before .before in
+    let i = j .before .before .before .before .before in
     let n = i .before in
-    let k = n .before .before .before .before in
-    pack-done (held (k .before .read .ensures) (k .tally-of .ensures)) _ _ _ (rw (n .work-need .ensures) at (i .if1 .left)) (j .before .before .if2 .left) (j .if3 .left) (q .pack-graph .ensures) (l .clear .ensures)
+    let k = n .before .before .before in
+    pack-done (held (k .before .read .ensures) (k .tally-of .ensures)) _ _ _ (rw (n .work-need .ensures) at (i .if1 .left)) (j .before .before .before .if2 .left) (j .if3 .left) (q .pack-graph .ensures) (l .clear .ensures)
 
 pub pack-sound-spec : {M : Type 1} → statement M
 pack-sound-spec =
@@ -90,13 +90,13 @@ pack-sound-spec =
     (tie.spec
     read-requires
     tally-of-requires
-    cast-root
     cast-work-need
     cast-work-need-2
     work-need-requires
     none-requires
     returns
     returns-2
+    cast-if3
     returns-3
     pack-graph-requires
     mul-clear

@@ -27,6 +27,9 @@ abbrev μ-next : tie.MeasureT-next
 next-holds : tie.Need-next-holds Inv-loop μ-loop Inv-loop2 μ-loop2 Inv-next μ-next
 next-holds c = look-first (c .before .before .pre .closedIs)
 
+cast-t13 : tie.Need-cast-t13 Inv-loop μ-loop Inv-loop2 μ-loop2 Inv-next μ-next
+cast-t13 c = search needs
+
 add-i : tie.Need-add-i Inv-loop μ-loop Inv-loop2 μ-loop2 Inv-next μ-next
 add-i c = search needs
 
@@ -114,6 +117,9 @@ loop2-less c = search needs
 loop2-again : tie.Need-loop2-again Inv-loop μ-loop Inv-loop2 μ-loop2 Inv-next μ-next
 loop2-again c = (search needs, pair-word (c .before .before .before .before .before .before .before .loop2 .inv .1) (c .before .before .before .before .before .if6 .taken) (c .if7 .left))
 
+cast-t31 : tie.Need-cast-t31 Inv-loop μ-loop Inv-loop2 μ-loop2 Inv-next μ-next
+cast-t31 c = omega (arith, c .before .before .before .before .before .before .before .before .before .before .before .before .before .before .before .before .before .before .pre .tested)
+
 returns : tie.Need-returns Inv-loop μ-loop Inv-loop2 μ-loop2 Inv-next μ-next
 returns c = look-none (c .before .next .inv) (c .if1 .taken)
 
@@ -131,6 +137,7 @@ seek-spec =
     Inv-next
     μ-next
     next-holds
+    cast-t13
     add-i
     closed-span-requires
     runs-of-requires
@@ -160,5 +167,6 @@ seek-spec =
     add-k
     loop2-less
     loop2-again
+    cast-t31
     returns
     returns-2)

@@ -1,9 +1,10 @@
 -- Sound stores go on to `close_sound`; others are refused.
-use Rattle.closing.proofs.Closes.{close-unsound}
+use Rattle.steps.specs.Runs.{close, leftByClose, stepOn}
+use Rattle.steps.proofs.Works.{unsound-told}
 use Rattle.session.proofs.close.Statement.{statement}
 use Rattle.session.proofs.close.Tie as tie
 use borrow.Author.Needs.{needs}
-use mathlib.Core.Path.{refl, sym, _∙_}
+use mathlib.Core.Path.{refl, ap, sym, _∙_}
 
 is-sound-requires : tie.Need-is-sound-requires
 is-sound-requires c κs = search needs
@@ -18,7 +19,8 @@ same-length-2 : tie.Need-same-length-2
 same-length-2 c = search needs
 
 returns : tie.Need-returns
-returns c = search needs
+unfolding stepOn
+returns c = ap leftByClose (c .before .before .before .before .close-sound .ensures)
 
 none-requires : tie.Need-none-requires
 none-requires c κs = search needs
@@ -30,7 +32,7 @@ same-length-4 : tie.Need-same-length-4
 same-length-4 c = refl
 
 returns-2 : tie.Need-returns-2
-returns-2 c = close-unsound (c .none .ensures) (sym (c .before .before .is-sound .ensures) ∙ c .before .if1 .left)
+returns-2 c = unsound-told close refl (c .none .ensures) (sym (c .before .before .is-sound .ensures) ∙ c .before .if1 .left)
 
 pub close-spec : {M : Type 1} → statement M
 close-spec =

@@ -1,7 +1,7 @@
 -- By whether the stores are sound.
 use borrow.Author.Needs.{needs}
-use mathlib.Core.Path.{refl, sym, _∙_}
-use Rattle.steps.specs.Steps.{openStep}
+use mathlib.Core.Path.{refl, ap, sym, _∙_}
+use Rattle.steps.specs.Runs.{open', leftBy, stepOn}
 use Rattle.steps.proofs.Works.{unsound-told}
 use Rattle.session.proofs.open.Statement.{statement}
 use Rattle.session.proofs.open.Tie as tie
@@ -16,7 +16,8 @@ same-length : tie.Need-same-length
 same-length c = search needs
 
 returns : tie.Need-returns
-returns c = search needs
+unfolding stepOn
+returns c = ap leftBy (c .before .before .open-sound .ensures)
 
 none-requires : tie.Need-none-requires
 none-requires c κs = search needs
@@ -25,8 +26,7 @@ same-length-2 : tie.Need-same-length-2
 same-length-2 c = refl
 
 returns-2 : tie.Need-returns-2
-unfolding openStep
-returns-2 c = unsound-told _ _ (c .none .ensures) (sym (c .before .before .is-sound .ensures) ∙ c .before .if1 .left)
+returns-2 c = unsound-told open' refl (c .none .ensures) (sym (c .before .before .is-sound .ensures) ∙ c .before .if1 .left)
 
 pub open-spec : {M : Type 1} → statement M
 open-spec =

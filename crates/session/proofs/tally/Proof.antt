@@ -1,7 +1,7 @@
 -- By whether the stores are sound.
 use borrow.Author.Needs.{needs}
-use mathlib.Core.Path.{sym, _∙_}
-use Rattle.steps.specs.Steps.{tallyStep}
+use mathlib.Core.Path.{refl, ap, sym, _∙_}
+use Rattle.steps.specs.Runs.{tally, leftBy, stepOn}
 use Rattle.steps.proofs.Works.{tally-done, unsound-told}
 use Rattle.session.proofs.tally.Statement.{statement}
 use Rattle.session.proofs.tally.Tie as tie
@@ -13,14 +13,14 @@ tally-sound-requires : tie.Need-tally-sound-requires
 tally-sound-requires c κs = sym (c .before .is-sound .ensures) ∙ c .if1 .taken
 
 returns : tie.Need-returns
-returns c = tally-done (sym (c .before .before .is-sound .ensures) ∙ c .before .if1 .taken) (c .tally-sound .ensures)
+unfolding stepOn
+returns c = ap leftBy (tally-done (sym (c .before .before .is-sound .ensures) ∙ c .before .if1 .taken) (c .tally-sound .ensures))
 
 none-requires : tie.Need-none-requires
 none-requires c κs = search needs
 
 returns-2 : tie.Need-returns-2
-unfolding tallyStep
-returns-2 c = unsound-told _ _ (c .none .ensures) (sym (c .before .before .is-sound .ensures) ∙ c .before .if1 .left)
+returns-2 c = unsound-told tally refl (c .none .ensures) (sym (c .before .before .is-sound .ensures) ∙ c .before .if1 .left)
 
 pub tally-spec : {M : Type 1} → statement M
 tally-spec =

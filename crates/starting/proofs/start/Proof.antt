@@ -1,5 +1,7 @@
 -- By whether the limits and the stores are in range.
 use borrow.Author.Needs.{needs}
+use mathlib.Core.Path.{ap}
+use Rattle.steps.specs.Runs.{leftBy, stepOn}
 use Rattle.steps.proofs.Works.{start-refused, start-fits, start-done}
 use Rattle.starting.proofs.start.Statement.{statement}
 use Rattle.starting.proofs.start.Tie as tie
@@ -11,7 +13,8 @@ none-requires : tie.Need-none-requires
 none-requires c κs = search needs
 
 returns : tie.Need-returns
-returns c = start-refused _ _ _ _ (c .none .ensures) (rw (c .before .before .need .ensures) at (c .before .if1 .taken))
+unfolding stepOn
+returns c = ap leftBy (start-refused _ _ _ _ (c .none .ensures) (rw (c .before .before .need .ensures) at (c .before .if1 .taken)))
 
 clear-requires : tie.Need-clear-requires
 clear-requires c κs = search needs
@@ -31,9 +34,11 @@ same-length-2 : tie.Need-same-length-2
 same-length-2 c = search needs
 
 returns-2 : tie.Need-returns-2
+unfolding stepOn
 returns-2 c =
     let i1 = c .before .before .before .before .before .before .before .before .before in
-    rw (c .before .before .before .before .before .before .before .clear .ensures, c .before .before .before .start-words .ensures) (start-done _ _ _ _ (c .none2 .ensures) (rw (i1 .before .need .ensures) at (i1 .if1 .left)))
+    rw (c .before .before .before .before .before .before .before .clear .ensures, c .before .before .before .start-words .ensures)
+    (ap leftBy (start-done _ _ _ _ (c .none2 .ensures) (rw (i1 .before .need .ensures) at (i1 .if1 .left))))
 
 pub start-spec : {M : Type 1} → statement M
 start-spec =

@@ -1,6 +1,5 @@
 -- The answer of the proved call as ten numbers, beside what it left.
 use borrow.Author.Needs.{needs}
-use Rattle.capi.proofs.Given.{given-close}
 use Rattle.capi.proofs.calls.scoterlime_close.Statement.{statement}
 use Rattle.capi.proofs.calls.scoterlime_close.Tie as tie
 
@@ -17,7 +16,7 @@ same-length-2 : tie.Need-same-length-2
 same-length-2 c = search needs
 
 returns : tie.Need-returns
-returns c = given-close _ (c .tell-close .ensures) (c .before .before .before .before .before .close .ensures)
+returns c = rw (c .tell-close .ensures) (c .before .before .before .before .before .close .ensures)
 
 pub scoterlime-close-spec : {M : Type 1} → statement M
 scoterlime-close-spec =

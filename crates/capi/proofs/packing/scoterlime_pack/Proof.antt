@@ -1,6 +1,5 @@
 -- The answer of the proved call as ten numbers, beside what it left.
 use borrow.Author.Needs.{needs}
-use Rattle.capi.proofs.Given.{given-pack}
 use Rattle.capi.proofs.packing.scoterlime_pack.Statement.{statement}
 use Rattle.capi.proofs.packing.scoterlime_pack.Tie as tie
 
@@ -17,7 +16,7 @@ same-length-2 : tie.Need-same-length-2
 same-length-2 c = search needs
 
 returns : tie.Need-returns
-returns c = given-pack _ (c .tell-pack .ensures) (c .before .before .before .before .before .pack .ensures)
+returns c = rw (c .tell-pack .ensures) (c .before .before .before .before .before .pack .ensures)
 
 pub scoterlime-pack-spec : {M : Type 1} → statement M
 scoterlime-pack-spec =
