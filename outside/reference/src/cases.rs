@@ -99,7 +99,7 @@ impl Case {
     }
 }
 
-pub fn paper_cases() -> Vec<Case> {
+pub fn hand_counted_cases() -> Vec<Case> {
     vec![
         case_1(),
         case_2("2 store 11", 11),

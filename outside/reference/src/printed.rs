@@ -2,7 +2,7 @@
 //! hand-counted cases and the traps, `crates/orders` the named graphs.
 
 use crate::call::{Call, Stores};
-use crate::cases::{paper_cases, Case};
+use crate::cases::{hand_counted_cases, Case};
 use crate::graph::Graph;
 use crate::graphs::{self, Named};
 use crate::lines::{self, numbers};
@@ -17,7 +17,7 @@ const WHOLE: usize = 64;
 
 /// The cases that it has room for.
 fn printed_cases() -> Vec<Case> {
-    let all = paper_cases().into_iter().chain(trap_cases());
+    let all = hand_counted_cases().into_iter().chain(trap_cases());
     all.filter(|case| longest(case) <= LONGEST).collect()
 }
 

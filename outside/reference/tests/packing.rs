@@ -5,7 +5,7 @@ mod common;
 use common::Session;
 use reference::answer::Answer;
 use reference::call::{Call, STALE_BYTE, STALE_WORK};
-use reference::cases::paper_cases;
+use reference::cases::hand_counted_cases;
 use reference::limits;
 use reference::traps::trap_cases;
 
@@ -124,7 +124,7 @@ fn all_four_bytes_of_a_width_4_offset() {
 }
 
 fn last_answer(name: &str) -> Answer {
-    let all = [paper_cases(), trap_cases()].concat();
+    let all = [hand_counted_cases(), trap_cases()].concat();
     let case = all.into_iter().find(|case| case.name == name).unwrap();
     let mut stores = reference::call::Stores::new(case.store, case.records);
     let answers = case.calls.iter().map(|call| stores.run(call).answer);

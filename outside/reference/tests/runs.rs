@@ -6,7 +6,7 @@ mod common;
 use common::Numbers;
 use reference::answer::Answer;
 use reference::call::{Call, Stores, STALE_BYTE, STALE_WORK};
-use reference::cases::{paper_cases, Case};
+use reference::cases::{hand_counted_cases, Case};
 use reference::history::History;
 use reference::limits;
 use reference::reader;
@@ -108,7 +108,7 @@ fn run_case(case: &Case) {
 
 #[test]
 fn every_case_agrees_with_its_history() {
-    for case in paper_cases().iter().chain(&trap_cases()) {
+    for case in hand_counted_cases().iter().chain(&trap_cases()) {
         run_case(case);
     }
 }

@@ -3,7 +3,7 @@
 use compare::claims::Claims;
 use compare::{Numbers, Pair};
 use reference::call::Call;
-use reference::cases::{paper_cases, Case};
+use reference::cases::{hand_counted_cases, Case};
 use reference::traps::trap_cases;
 use reference::Answer;
 
@@ -26,7 +26,7 @@ fn run(case: &Case) -> (Answer, Vec<u8>) {
 }
 
 fn named(name: &str) -> Case {
-    let cases = paper_cases();
+    let cases = hand_counted_cases();
     cases
         .into_iter()
         .find(|case| case.name == name)
@@ -35,7 +35,7 @@ fn named(name: &str) -> Case {
 
 #[test]
 fn every_case_is_the_same_on_both() {
-    for case in paper_cases().iter().chain(&trap_cases()) {
+    for case in hand_counted_cases().iter().chain(&trap_cases()) {
         run(case);
     }
 }
