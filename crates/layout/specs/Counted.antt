@@ -3,14 +3,15 @@ use mathlib.Core.Path.{_≡_}
 use Prim.Native.Nat.{ℕ, _+_, _*_, _≤_}
 use mathlib.Core.List.{List}
 use lib.ListN.{length}
-use Rattle.layout.specs.Words.{objectLimit, closedCount, openDepth}
+use Rattle.model.specs.Judge.{mostObjects, mostOpen}
+use Rattle.layout.specs.Words.{objectLimit, closedCount, openDepth, linksBase}
 use Rattle.layout.specs.declared.counts.Counts.{Counts}
 
 pub record Counted (w : List ℕ) (k : Counts) : Type 0 where
   pub objectsIs : k .objects ≡ objectLimit w
   pub closedIs : k .closed ≡ closedCount w
   pub depthIs : k .depth ≡ openDepth w
-  pub few : k .objects ≤ 4096
+  pub few : k .objects ≤ mostObjects
   pub within : k .closed ≤ k .objects
-  pub shallow : k .depth ≤ 64
-  pub room : 135 + k .objects * 2 ≤ length w
+  pub shallow : k .depth ≤ mostOpen
+  pub room : linksBase + k .objects * 2 ≤ length w

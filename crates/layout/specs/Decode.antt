@@ -1,31 +1,28 @@
 -- docs/RULES.md, 3.4: what the two stores hold, read off their words: total, and meant where they are sound.
-use Prim.Native.Nat.{ℕ, zero, suc, _+_, _*_}
+use Prim.Native.Nat.{ℕ, zero, suc, _*_}
 use mathlib.Core.List.{List, [], _∷_, _++_}
-use lib.ListN.{getD}
 use Rattle.lists.specs.Lists.{part}
 use Rattle.model.specs.Object.{Link, Object}
 use Rattle.model.specs.Session.{Session}
-use Rattle.layout.specs.Words.{openDepth, closedCount, endsAt, linkEndsAt, beginsAt, linkBeginsAt, linkWords, linkArea, linksOf, limitsIn}
+use Rattle.layout.specs.Words.{openDepth, closedCount, linkWords, linkArea, linksOf, limitsIn}
+use Rattle.layout.specs.Spans.{openSpan, closedSpan}
+use Rattle.layout.specs.declared.span.Span.{Span}
 
 -- the links from number a up to number e
 abbrev pub linksFrom : List ℕ → ℕ → ℕ → List Link
 linksFrom w a e = linksOf (part (a * linkWords) (e * linkWords) (linkArea w))
 
+-- the object that lies there
+abbrev pub objectIn : List ℕ → List ℕ → Span → Object
+objectIn b w s = record { bytes = part (s .from) (s .to) b; links = linksFrom w (s .first) (s .last) }
+
 -- open object d, the oldest being 0
 abbrev pub openAt : List ℕ → List ℕ → ℕ → Object
-openAt b w d =
-    record {
-      bytes = part (getD w (endsAt + d) 0) (getD w (endsAt + d + 1) 0) b;
-      links = linksFrom w (getD w (linkEndsAt + d) 0) (getD w (linkEndsAt + d + 1) 0);
-    }
+openAt b w d = objectIn b w (openSpan w d)
 
 -- closed object i
 abbrev pub closedAt : List ℕ → List ℕ → ℕ → Object
-closedAt b w i =
-    record {
-      bytes = part (getD w (beginsAt + i + 1) 0) (getD w (beginsAt + i) 0) b;
-      links = linksFrom w (getD w (linkBeginsAt w + i + 1) 0) (getD w (linkBeginsAt w + i) 0);
-    }
+closedAt b w i = objectIn b w (closedSpan w i)
 
 -- the first d open objects, the innermost first
 unfoldable pub opensTo : List ℕ → List ℕ → ℕ → List Object

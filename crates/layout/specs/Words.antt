@@ -1,53 +1,66 @@
 -- docs/RULES.md, 3.3 and 3.4: the words of the record store, as docs/LAYOUT.md draws them. Byte store and links are stacked alike: open objects from the front, closed ones from the back.
 -- A table has a first entry that is a constant, so that every object lies between two neighbours.
 use Prim.Native.Nat.{ℕ, _+_, _*_, _≤_}
-use mathlib.Core.List.{List, [], _∷_}
+use mathlib.Core.List.{List}
 use native.Mathlib.Omega.{arith}
 use lib.ListN.{getD}
 use Rattle.lists.specs.Lists.{part}
-use Rattle.model.specs.Object.{Link}
-use Rattle.model.specs.Judge.{Limits}
+unfoldable pub use Rattle.model.specs.Words.{linksOf}
+pub use Rattle.model.specs.Words.{linkWords, wordsOf, linkAt}
+use Rattle.model.specs.Judge.{mostOpen, mostNeed, Limits}
 
 -- ---- the header
 
+abbrev pub objectLimitAt : ℕ
+objectLimitAt = 0
+
+abbrev pub closedCountAt : ℕ
+closedCountAt = 1
+
+abbrev pub openDepthAt : ℕ
+openDepthAt = 2
+
 abbrev pub objectLimit : List ℕ → ℕ
-objectLimit w = getD w 0 0
+objectLimit w = getD w objectLimitAt 0
 
 abbrev pub closedCount : List ℕ → ℕ
-closedCount w = getD w 1 0
+closedCount w = getD w closedCountAt 0
 
 abbrev pub openDepth : List ℕ → ℕ
-openDepth w = getD w 2 0
+openDepth w = getD w openDepthAt 0
 
 -- ---- where the tables begin
 
 -- entry 0 is 0, entry d where open object d ends (counted from 1, the oldest first): in bytes, and in links
 abbrev pub endsAt : ℕ
-endsAt = 3
+endsAt = openDepthAt + 1
 
 abbrev pub linkEndsAt : ℕ
-linkEndsAt = 68
+linkEndsAt = endsAt + mostOpen + 1
 
 -- entry 0 is the store's length, entry i + 1 where closed object i begins
 abbrev pub beginsAt : ℕ
-beginsAt = 133
+beginsAt = linkEndsAt + mostOpen + 1
 
--- the same in links: entry 0 is the link limit
+-- the same in links, as many words further on as the object limit: entry 0 is the link limit
+abbrev pub linkBeginsBase : ℕ
+linkBeginsBase = beginsAt + 1
+
 abbrev pub linkBeginsAt : List ℕ → ℕ
-linkBeginsAt w = 134 + objectLimit w
+linkBeginsAt w = linkBeginsBase + objectLimit w
 
--- the links' records
+-- the links' records, twice the object limit further on
+abbrev pub linksBase : ℕ
+linksBase = linkBeginsBase + 1
+
 abbrev pub linksAt : List ℕ → ℕ
-linksAt w = 135 + objectLimit w * 2
-
-abbrev pub linkWords : ℕ
-linkWords = 3
+linksAt w = linksBase + objectLimit w * 2
 
 -- how many words the record store needs
 abbrev pub need : ℕ → ℕ → ℕ
-need objects links = 135 + objects * 2 + links * linkWords
+need objects links = linksBase + objects * 2 + links * linkWords
 
-pub need-bound : (objects links : ℕ) → need objects links ≤ 4096 + 64 * (objects + links)
+pub need-bound : (objects links : ℕ) → need objects links ≤ mostNeed objects links
 need-bound objects links = omega arith
 
 -- ---- the limits
@@ -91,18 +104,3 @@ low w = getD w (beginsAt + closedCount w) 0
 
 abbrev pub linkLow : List ℕ → ℕ
 linkLow w = getD w (linkBeginsAt w + closedCount w) 0
-
--- ---- a link's words
-
-abbrev pub wordsOf : Link → List ℕ
-wordsOf l = l .at ∷ l .width ∷ l .child ∷ []
-
-unfoldable pub linksOf : List ℕ → List Link
-linksOf [] = []
-linksOf (a ∷ []) = []
-linksOf (a ∷ k ∷ []) = []
-linksOf (a ∷ k ∷ c ∷ ws) = record { at = a; width = k; child = c } ∷ linksOf ws
-
--- the link whose words begin at index i
-abbrev pub linkAt : List ℕ → ℕ → Link
-linkAt ws i = record { at = getD ws i 0; width = getD ws (i + 1) 0; child = getD ws (i + 2) 0 }

@@ -4,7 +4,7 @@ use mathlib.Core.Path.{_≡_}
 use mathlib.Core.List.{List, [], _∷_}
 use lib.ListN.{getD, set, replicate}
 use Rattle.lists.specs.Lists.{total}
-use Rattle.field.specs.BigEndian.{capacity}
+use Rattle.big_endian.specs.BigEndian.{capacity}
 use Rattle.model.specs.Object.{Link}
 use Rattle.model.specs.Graph.{Graph, reached}
 use Rattle.model.specs.Order.{orderBy}

@@ -1,5 +1,5 @@
 -- docs/RULES.md, section 6: for each call the refusals in the order of 6.1, of which the first that applies is told. The ranges are those of 3.1 and 3.2.
-use Prim.Native.Nat.{ℕ, _+_}
+use Prim.Native.Nat.{ℕ, _+_, _*_}
 use mathlib.Core.Path.{_≡_}
 use mathlib.Core.List.{List, [], _∷_}
 use mathlib.Core.Bool.{Bool, true, false, not, _&&_}
@@ -25,6 +25,10 @@ mostBytes = 1048576
 
 abbrev pub mostOpen : ℕ
 mostOpen = 64
+
+-- how many words the record store and the work memory may need at the most
+abbrev pub mostNeed : ℕ → ℕ → ℕ
+mostNeed objects links = 4096 + 64 * (objects + links)
 
 -- what a start chooses: the object limit (the piece limit), the link limit, and the byte store by its length
 pub record Limits : Type 0 where

@@ -1,5 +1,6 @@
 pub mod Bag
 pub mod Object
+pub mod Words
 pub mod Graph
 pub mod Order
 pub mod Distance

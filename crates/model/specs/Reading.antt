@@ -7,7 +7,7 @@ use mathlib.Core.Logic.{_⊎_}
 use lib.ListN.{length, getD}
 use lib.Dec.{eqb}
 use Rattle.lists.specs.Lists.{pick, part, sameList}
-use Rattle.field.specs.BigEndian.{readBig}
+use Rattle.big_endian.specs.BigEndian.{readBig}
 use Rattle.model.specs.Object.{Link, Object}
 use Rattle.model.specs.Graph.{Graph}
 

@@ -82,24 +82,24 @@ pub record Left : Type 0 where
   pub after : Session
 
 -- by a verdict: a refused call changes nothing
-abbrev pub settle : Verdict → Session → Left → Left
-settle accepted s l = l
-settle (refused why) s l = record { told = refusal why (tallyOf s); after = s }
+abbrev pub settleCall : Verdict → Session → Left → Left
+settleCall accepted s l = l
+settleCall (refused why) s l = record { told = refusal why (tallyOf s); after = s }
 
 -- an accepted call that leaves s
 abbrev pub leaves : Session → Left
 leaves s = record { told = done (tallyOf s); after = s }
 
 unfoldable pub step : Needs → SessionCall → Session → Left
-step n (startCall m records) s = settle (judgeStart m (n .records m) records) s (leaves (started m))
-step n openCall s = settle (judgeOpen true (tallyOf s)) s (leaves (withOpens (noObject ∷ s .opens) s))
-step n (putCall vs) s = settle (judgePut true (s .limits) (tallyOf s) (length vs)) s (leaves (onInnermost (withBytes vs) s))
-step n (linkCall w id) s = settle (judgeLink true (s .limits) (tallyOf s) w id) s (leaves (onInnermost (withLink w id) s))
+step n (startCall m records) s = settleCall (judgeStart m (n .records m) records) s (leaves (started m))
+step n openCall s = settleCall (judgeOpen true (tallyOf s)) s (leaves (withOpens (noObject ∷ s .opens) s))
+step n (putCall vs) s = settleCall (judgePut true (s .limits) (tallyOf s) (length vs)) s (leaves (onInnermost (withBytes vs) s))
+step n (linkCall w id) s = settleCall (judgeLink true (s .limits) (tallyOf s) w id) s (leaves (onInnermost (withLink w id) s))
 step n closeCall s =
-    settle (judgeClose true (s .limits) (tallyOf s) (sizeOf (innermost (s .opens))) (twin s)) s
+    settleCall (judgeClose true (s .limits) (tallyOf s) (sizeOf (innermost (s .opens))) (twin s)) s
     (record { told = doneClose (twin s) (tallyOf (sealed s)); after = sealed s })
-step n dropCall s = settle (judgeDrop true (tallyOf s)) s (leaves (withOpens (outer (s .opens)) s))
-step n tallyCall s = settle (judgeTally true) s (leaves s)
+step n dropCall s = settleCall (judgeDrop true (tallyOf s)) s (leaves (withOpens (outer (s .opens)) s))
+step n tallyCall s = settleCall (judgeTally true) s (leaves s)
 
 -- ---- pack changes no session: what it tells, and the table that it writes
 

@@ -6,7 +6,7 @@ use lib.ListN.{length}
 use lib.Dec.{eqb}
 use Rattle.lists.specs.Lists.{pick, total, over}
 use Rattle.answer.specs.declared.Overflow.{Overflow}
-use Rattle.field.specs.BigEndian.{fits, bigEndian}
+use Rattle.big_endian.specs.BigEndian.{fits, bigEndian}
 use Rattle.model.specs.Object.{Link}
 use Rattle.model.specs.Graph.{Graph, reached}
 use Rattle.model.specs.Distance.{kahnOrder, distanceOrder}
@@ -60,6 +60,22 @@ firstFit g o (p ∷ ps) = tryOrder (unfit g o) o (firstFit g p ps)
 
 unfoldable pub arranged : Graph → ℕ → Outcome
 arranged g root = firstFit g (kahnOrder g root) (distanceOrder g root ∷ [])
+
+-- ---- the same as facts about a list of orders
+
+-- the orders that a pack tries, in turn
+abbrev pub ordersOf : Graph → ℕ → List (List ℕ)
+ordersOf g root = kahnOrder g root ∷ distanceOrder g root ∷ []
+
+-- o is the first of the list in which every link fits
+pub data FirstFit (g : Graph) (o : List ℕ) : List (List ℕ) → Type 0 where
+  here : {p : List ℕ} {os : List (List ℕ)} → o ≡ p → unfit g o ≡ [] → FirstFit g o (p ∷ os)
+  later : {p : List ℕ} {os : List (List ℕ)} → (unfit g p ≡ [] → ⊥) → FirstFit g o os → FirstFit g o (p ∷ os)
+
+-- in none of the list every link fits, and v is the first that does not in the last one
+pub data NoneFits (g : Graph) (v : Overflow) : List (List ℕ) → Type 0 where
+  last : {p : List ℕ} {us : List Overflow} → unfit g p ≡ v ∷ us → NoneFits g v (p ∷ [])
+  earlier : {p : List ℕ} {os : List (List ℕ)} → (unfit g p ≡ [] → ⊥) → NoneFits g v os → NoneFits g v (p ∷ os)
 
 -- ---- the table
 

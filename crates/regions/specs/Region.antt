@@ -23,3 +23,9 @@ pub record Filling (a n v i : ℕ) (w₀ w : List ℕ) : Type 0 where
   pub some : i ≤ n
   pub kept : Kept a (a + n) w₀ w
   pub done : region a i w ≡ replicate i v
+
+-- `n` words from `from` on are being copied to `to` and on, `i` of them are
+pub record Copying (from to n i : ℕ) (w₀ w : List ℕ) : Type 0 where
+  pub some : i ≤ n
+  pub kept : Kept to (to + n) w₀ w
+  pub done : region to i w ≡ region from i w₀

@@ -18,7 +18,7 @@ use Rattle.layout.specs.Words.{objectLimit, linkLimit}
 use Rattle.layout.specs.Sound.{sound}
 use Rattle.layout.specs.Decode.{decode}
 use Rattle.steps.specs.Steps.{tallyIn}
-use Rattle.layout.specs.Need.{workNeed}
+use Rattle.work.specs.Areas.{workNeed}
 
 pub record PackOut : Type 0 where
   pub answer : Packing
@@ -36,14 +36,14 @@ cleared w work = over 0 (replicate (workNeed (objectLimit w) (linkLimit w)) 0) w
 abbrev pub clears : Refusal → Bool
 clears why = eqb (number why) 10 || eqb (number why) 11
 
-abbrev pub settle : Verdict → List ℕ → List ℕ → List ℕ → List ℕ → PackOut → PackOut
-settle accepted b w out work done = done
-settle (refused why) b w out work done = packed (Refused why (beside why (tallyIn b w))) out (pick (clears why) (cleared w work) work)
+abbrev pub settlePackStep : Verdict → List ℕ → List ℕ → List ℕ → List ℕ → PackOut → PackOut
+settlePackStep accepted b w out work done = done
+settlePackStep (refused why) b w out work done = packed (Refused why (beside why (tallyIn b w))) out (pick (clears why) (cleared w work) work)
 
 -- by a verdict, on a table of this size and this outcome of the orders
 abbrev pub packBy : Verdict → ℕ → Outcome → List ℕ → List ℕ → List ℕ → List ℕ → PackOut
 packBy v size outcome b w out work =
-    settle v b w out work (packed (Done size (tallyIn b w)) (over 0 (tableIn (decode b w) outcome) out) (cleared w work))
+    settlePackStep v b w out work (packed (Done size (tallyIn b w)) (over 0 (tableIn (decode b w) outcome) out) (cleared w work))
 
 unfoldable pub packStep : ℕ → List ℕ → List ℕ → List ℕ → List ℕ → PackOut
 packStep id b w out work =

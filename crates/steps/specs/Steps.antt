@@ -1,7 +1,7 @@
 -- docs/RULES.md, sections 5 and 6: each call as a function of the two stores, b (bytes) and w (record words): the answer, and both stores after it.
 use Prim.Native.Nat.{ℕ, _+_, _-_, _*_}
 use mathlib.Core.List.{List}
-use lib.ListN.{length, getD, set, replicate}
+use lib.ListN.{length, set, replicate}
 use lib.Dec.{ltb}
 use Rattle.lists.specs.Lists.{pick, part, over, firstThat}
 use Rattle.answer.specs.Number.{noTally, beside}
@@ -14,7 +14,8 @@ use Rattle.answer.specs.declared.Closing.the-variants as Closing
 use Rattle.model.specs.Object.{Object, sameObject}
 use Rattle.model.specs.Judge.{Limits, Verdict, accepted, refused, judgeStart, judgeOpen, judgePut, judgeLink, judgeClose, judgeDrop, judgeTally}
 use Rattle.layout.specs.declared.state.State.{State}
-use Rattle.layout.specs.Words.{closedCount, openDepth, endsAt, linkEndsAt, beginsAt, linkBeginsAt, linksAt, linkWords, need, limitsIn, linkLimit, top, linkTop, low, linkLow, wordsOf}
+use Rattle.layout.specs.Words.{objectLimitAt, closedCountAt, openDepthAt, closedCount, openDepth, endsAt, linkEndsAt, beginsAt, linkBeginsBase, linkBeginsAt, linksAt, linkWords, need, limitsIn, linkLimit, top, linkTop, low, linkLow, wordsOf}
+use Rattle.layout.specs.Spans.{innerSpan}
 use Rattle.layout.specs.Decode.{openAt, closedTo}
 use Rattle.layout.specs.Sound.{sound}
 
@@ -48,9 +49,9 @@ tallyBy n s =
     }
 
 -- by a verdict: a refused call leaves both stores as they were
-abbrev pub settle : Verdict → List ℕ → List ℕ → Out → Out
-settle accepted b w out = out
-settle (refused why) b w out = outcome (Refused why (beside why (tallyIn b w))) b w
+abbrev pub settleStep : Verdict → List ℕ → List ℕ → Out → Out
+settleStep accepted b w out = out
+settleStep (refused why) b w out = outcome (Refused why (beside why (tallyIn b w))) b w
 
 -- ---- start: the whole byte store and the needed words cleared, the limits and the length noted; what stood there plays no part
 
@@ -59,11 +60,11 @@ limitsOf objects links b = record { objects = objects; links = links; bytes = le
 
 abbrev pub startWords : Limits → List ℕ → List ℕ
 startWords m w =
-    set (set (set (over 0 (replicate (need (m .objects) (m .links)) 0) w) 0 (m .objects)) beginsAt (m .bytes)) (134 + m .objects) (m .links)
+    set (set (set (over 0 (replicate (need (m .objects) (m .links)) 0) w) objectLimitAt (m .objects)) beginsAt (m .bytes)) (linkBeginsBase + m .objects) (m .links)
 
 unfoldable pub startStep : ℕ → ℕ → List ℕ → List ℕ → Out
 startStep objects links b w =
-    settle (judgeStart (limitsOf objects links b) (need objects links) (length w)) b w
+    settleStep (judgeStart (limitsOf objects links b) (need objects links) (length w)) b w
     (outcome (Done noTally) (replicate (length b) 0) (startWords (limitsOf objects links b) w))
 
 -- ---- open: one more entry in the tables of ends, the same as the last
@@ -71,23 +72,23 @@ startStep objects links b w =
 unfoldable pub openStep : List ℕ → List ℕ → Out
 openStep b w =
     let d = openDepth w in
-    settle (judgeOpen (sound b w) (tallyIn b w)) b w
-    (outcome (Done (opened (tallyIn b w))) b (set (set (set w (endsAt + d + 1) (top w)) (linkEndsAt + d + 1) (linkTop w)) 2 (d + 1)))
+    settleStep (judgeOpen (sound b w) (tallyIn b w)) b w
+    (outcome (Done (opened (tallyIn b w))) b (set (set (set w (endsAt + d + 1) (top w)) (linkEndsAt + d + 1) (linkTop w)) openDepthAt (d + 1)))
 
 -- ---- put: the bytes behind the open ones
 
 unfoldable pub putStep : List ℕ → List ℕ → List ℕ → Out
 putStep vs b w =
-    settle (judgePut (sound b w) (limitsIn w) (tallyIn b w) (length vs)) b w
+    settleStep (judgePut (sound b w) (limitsIn w) (tallyIn b w) (length vs)) b w
     (outcome (Done (grown (length vs) 0 (tallyIn b w))) (over (top w) vs b) (set w (endsAt + openDepth w) (top w + length vs)))
 
 -- ---- the innermost open object: where it begins, and what it is
 
 abbrev pub under : List ℕ → ℕ
-under w = getD w (endsAt + (openDepth w - 1)) 0
+under w = innerSpan w .from
 
 abbrev pub linkUnder : List ℕ → ℕ
-linkUnder w = getD w (linkEndsAt + (openDepth w - 1)) 0
+linkUnder w = innerSpan w .first
 
 abbrev pub inner : List ℕ → List ℕ → Object
 inner b w = openAt b w (openDepth w - 1)
@@ -101,7 +102,7 @@ linkWordsOf width id w =
 
 unfoldable pub linkStep : ℕ → ℕ → List ℕ → List ℕ → Out
 linkStep width id b w =
-    settle (judgeLink (sound b w) (limitsIn w) (tallyIn b w) width id) b w
+    settleStep (judgeLink (sound b w) (limitsIn w) (tallyIn b w) width id) b w
     (outcome (Done (grown width 1 (tallyIn b w))) b (linkWordsOf width id w))
 
 -- ---- drop: the innermost open object's bytes cleared
@@ -110,7 +111,7 @@ abbrev pub droppedBytes : List ℕ → List ℕ → List ℕ
 droppedBytes b w = over (under w) (replicate (top w - under w) 0) b
 
 abbrev pub droppedWords : List ℕ → List ℕ
-droppedWords w = set w 2 (openDepth w - 1)
+droppedWords w = set w openDepthAt (openDepth w - 1)
 
 -- less its bytes and links
 abbrev pub lessInner : List ℕ → List ℕ → Tally
@@ -118,12 +119,12 @@ lessInner b w = released (top w - under w) (linkTop w - linkUnder w) (tallyIn b 
 
 unfoldable pub dropStep : List ℕ → List ℕ → Out
 dropStep b w =
-    settle (judgeDrop (sound b w) (tallyIn b w)) b w (outcome (Done (lessInner b w)) (droppedBytes b w) (droppedWords w))
+    settleStep (judgeDrop (sound b w) (tallyIn b w)) b w (outcome (Done (lessInner b w)) (droppedBytes b w) (droppedWords w))
 
 -- ---- tally
 
 unfoldable pub tallyStep : List ℕ → List ℕ → Out
-tallyStep b w = settle (judgeTally (sound b w)) b w (outcome (Done (tallyIn b w)) b w)
+tallyStep b w = settleStep (judgeTally (sound b w)) b w (outcome (Done (tallyIn b w)) b w)
 
 -- ---- close
 
@@ -163,7 +164,7 @@ abbrev pub sealedWords : List ℕ → List ℕ
 sealedWords w =
     let c = closedCount w in
     set (set (set (set (over (linksAt w + newLinkLow w * linkWords) (part (linksAt w + linkUnder w * linkWords) (linksAt w + linkTop w * linkWords) w) w)
-    (beginsAt + c + 1) (newLow w)) (linkBeginsAt w + c + 1) (newLinkLow w)) 1 (c + 1)) 2 (openDepth w - 1)
+    (beginsAt + c + 1) (newLow w)) (linkBeginsAt w + c + 1) (newLinkLow w)) closedCountAt (c + 1)) openDepthAt (openDepth w - 1)
 
 abbrev pub closeNew : List ℕ → List ℕ → CloseOut
 closeNew b w = closing (Closing.Done (record { 0 = closedCount w }) (added (tallyIn b w))) (sealedBytes b w) (sealedWords w)

@@ -1,0 +1,14 @@
+-- docs/RULES.md, section 6: an answer as ten numbers.
+use Rattle.model.specs.Told.{Told}
+use Rattle.capi_answer.specs.declared.Numbers.{Numbers}
+
+-- what they tell: the number and the values, in the order of the struct
+abbrev pub toldIn : Numbers → Told
+toldIn n =
+    record {
+      number = n .number;
+      tally = record { bytes = n .bytes; links = n .links; objects = n .objects; depth = n .depth };
+      id = n .id;
+      length = n .length;
+      overflow = record { parent = record { 0 = n .parent }; field = n .field; needed = n .needed };
+    }

@@ -1,0 +1,107 @@
+-- The graph in the first words of the work memory: sizes, first links, link counts, then the links' words. `f` is those words.
+use Prim.Native.Nat.{ℕ, zero, suc, _+_, _*_, _-_, _≤_, _<_}
+use mathlib.Core.Path.{_≡_}
+use mathlib.Core.List.{List, [], _∷_}
+use mathlib.Core.Bool.{true}
+use lib.ListN.{length, getD, take}
+use lib.Dec.{ltb}
+use Rattle.lists.specs.Lists.{pick}
+use Rattle.answer.specs.declared.ObjectId.{ObjectId}
+use Rattle.model.specs.Object.{Link, widthOk}
+use Rattle.model.specs.Words.{linkWords, linkAt}
+use Rattle.model.specs.Graph.{Graph}
+use Rattle.model.specs.Distance.{weight}
+use Rattle.work.specs.Areas.{Apart}
+use Rattle.work.specs.declared.Areas.{Areas}
+
+-- the links whose words begin at index j, k of them
+unfoldable pub linksFrom : List ℕ → ℕ → ℕ → List Link
+linksFrom f j zero = []
+linksFrom f j (suc k) = linkAt f j ∷ linksFrom f (j + linkWords) k
+
+-- where the links of a node begin, and how many it has
+abbrev pub linksAt : Areas → List ℕ → ℕ → ℕ
+linksAt a f i = a .links + getD f (a .firsts + i) 0 * linkWords
+
+abbrev pub linkCount : Areas → List ℕ → ℕ → ℕ
+linkCount a f i = getD f (a .counts + i) 0
+
+abbrev pub linkOf : Areas → List ℕ → ℕ → ℕ → Link
+linkOf a f i t = linkAt f (linksAt a f i + t * linkWords)
+
+-- the links of node i from the one with number t on
+abbrev pub linksAfter : Areas → List ℕ → ℕ → ℕ → List Link
+linksAfter a f i t = linksFrom f (linksAt a f i + t * linkWords) (linkCount a f i - t)
+
+-- n nodes; past them nothing
+abbrev pub graphIn : Areas → ℕ → List ℕ → Graph
+graphIn a n f = record { size = λ i. pick (ltb i n) (getD f i 0) 0; links = λ i. pick (ltb i n) (linksAfter a f i 0) [] }
+
+-- the graph of n nodes in front of the work memory w
+abbrev pub graphOn : Areas → ℕ → List ℕ → Graph
+graphOn a n w = graphIn a n (take (a .keys) w)
+
+-- the id under which a node is told
+abbrev pub objectOf : ℕ → ObjectId
+objectOf i = record { 0 = i }
+
+-- ---- numbers that the arithmetic leans on
+
+-- nodes and links are fewer than this, and sizes less
+abbrev pub mostNodes : ℕ
+mostNodes = 65536
+
+abbrev pub mostLinks : ℕ
+mostLinks = 16777216
+
+abbrev pub mostSize : ℕ
+mostSize = 4294967296
+
+-- a link weighs less than this: a size and the capacity of the widest field
+abbrev pub mostWeight : ℕ
+mostWeight = 8589934592
+
+-- the links of node i lie in the graph's words, have a known width, and go to other nodes of the n
+pub record TidyNode (a : Areas) (n : ℕ) (f : List ℕ) (i : ℕ) : Type 0 where
+  pub few : linkCount a f i ≤ mostLinks
+  pub within : linksAt a f i + linkCount a f i * linkWords ≤ a .keys
+  pub wide : (t : ℕ) → t < linkCount a f i → widthOk (linkOf a f i t .width) ≡ true
+  pub known : (t : ℕ) → t < linkCount a f i → linkOf a f i t .child < n
+
+-- n nodes, with room for them
+pub record Tidy (a : Areas) (n : ℕ) (f : List ℕ) : Type 0 where
+  pub nodes : n ≤ a .nodes
+  pub limit : a .nodes ≤ mostNodes
+  pub light : (i : ℕ) → i < n → getD f i 0 < mostSize
+  pub node : (i : ℕ) → i < n → TidyNode a n f i
+
+-- the graph stands in front of the work memory w, which has all areas
+pub record Stands (a : Areas) (n : ℕ) (w : List ℕ) : Type 0 where
+  pub apart : Apart a
+  pub long : a .end ≤ length w
+  pub tidy : Tidy a n (take (a .keys) w)
+
+-- ---- what is asked to read node i, and link t of it
+
+pub record AtNode (a : Areas) (n i : ℕ) (w : List ℕ) : Type 0 where
+  pub graph : Stands a n w
+  pub inside : i < n
+
+pub record AtLink (a : Areas) (n i t : ℕ) (w : List ℕ) : Type 0 where
+  pub node : AtNode a n i w
+  pub some : t < linkCount a (take (a .keys) w) i
+
+-- link t of node i, as read
+pub record FieldOf (a : Areas) (n : ℕ) (f : List ℕ) (i t at width child : ℕ) : Type 0 where
+  pub at-is : at ≡ linkOf a f i t .at
+  pub width-is : width ≡ linkOf a f i t .width
+  pub child-is : child ≡ linkOf a f i t .child
+  pub narrow : width ≤ 4
+  pub known : child < n
+
+-- its child and its weight
+pub record EdgeOf (a : Areas) (n : ℕ) (f : List ℕ) (i t child weigh : ℕ) : Type 0 where
+  pub child-is : child ≡ linkOf a f i t .child
+  pub known : child < n
+  pub weight-is : weigh ≡ weight (graphIn a n f) (linkOf a f i t)
+  pub light : weigh < mostWeight

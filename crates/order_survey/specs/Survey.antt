@@ -1,0 +1,109 @@
+-- docs/RULES.md, 7.1 and 7.4, in the work memory, once for a root: the line of the nodes that it reaches, parents before their children; how many
+-- fields of those lead to each node; the distances; and the length of the table.
+use Prim.Native.Nat.{ℕ, zero, suc, _+_, _*_, _≤_, _<_}
+use mathlib.Core.Path.{_≡_}
+use mathlib.Core.List.{List, [], _∷_, _++_}
+use lib.ListN.{getD, set, replicate}
+use lib.Dec.{eqb}
+use Rattle.regions.specs.Region.{top, Kept}
+use Rattle.lists.specs.Lists.{pick}
+use Rattle.model.specs.Object.{Link}
+use Rattle.model.specs.Bag.{count}
+use Rattle.model.specs.Graph.{Graph, waits, reached, Acyclic}
+use Rattle.model.specs.Distance.{weight, relax, relaxAll, distancesBy, distance}
+use Rattle.model.specs.Table.{tableLength}
+use Rattle.work.specs.declared.Areas.{Areas}
+use Rattle.work.specs.Views.{lineIn, incomingIn, distancesIn}
+use Rattle.order_graph.specs.Graph.{graphOn, mostNodes, mostLinks, Stands, AtNode}
+
+-- ---- the line, and the incoming fields
+
+-- the line so far, and how many fields of the nodes in it lead to each node
+pub record Lined : Type 0 where
+  pub line : List ℕ
+  pub incoming : List ℕ
+
+unfoldable pub countedAll : List Link → List ℕ → List ℕ
+countedAll [] cs = cs
+countedAll (l ∷ ls) cs = countedAll ls (set cs (l .child) (getD cs (l .child) 0 + 1))
+
+abbrev pub joined : Graph → ℕ → Lined → Lined
+joined g i s = record { line = s .line ++ (i ∷ []); incoming = countedAll (g .links i) (s .incoming) }
+
+-- the nodes below i, the highest first: each that a field leads to joins the line
+unfoldable pub lined : Graph → ℕ → Lined → Lined
+lined g zero s = s
+lined g (suc i) s = lined g i (pick (eqb (getD (s .incoming) i 0) 0) s (joined g i s))
+
+-- at first only the root counts as led to
+abbrev pub unlined : ℕ → ℕ → Lined
+unlined nodes root = record { line = []; incoming = set (replicate nodes 0) root 1 }
+
+abbrev pub linedOf : Areas → ℕ → List ℕ → Lined
+linedOf a r w = record { line = lineIn a r w; incoming = incomingIn a w }
+
+-- ---- what the steps ask and do
+
+-- far beyond any distance, which is less than mostNodes times mostWeight
+abbrev pub farAway : ℕ
+farAway = 9223372036854775808
+
+-- the fields of node i
+pub record Counting (a : Areas) (n i : ℕ) (w : List ℕ) : Type 0 where
+  pub node : AtNode a n i w
+  pub small : top (incomingIn a w) + mostLinks ≤ farAway
+
+pub record CountedAll (a : Areas) (n i : ℕ) (w w′ : List ℕ) : Type 0 where
+  pub kept : Kept (a .incoming) (a .distances) w w′
+  pub incoming : incomingIn a w′ ≡ countedAll (graphOn a n w .links i) (incomingIn a w)
+  pub bound : top (incomingIn a w′) ≤ top (incomingIn a w) + mostLinks
+
+-- counts that leave room for those of all nodes
+pub record Lining (a : Areas) (n root : ℕ) (w : List ℕ) : Type 0 where
+  pub node : AtNode a n root w
+  pub small : top (incomingIn a w) + mostNodes * mostLinks ≤ farAway
+
+-- r nodes stand in the line, which was found from s
+pub record LineFound (a : Areas) (n root r : ℕ) (s : Lined) (w w′ : List ℕ) : Type 0 where
+  pub kept : Kept (a .line) (a .distances) w w′
+  pub few : r ≤ a .nodes
+  pub ids : top (lineIn a r w′) ≤ n
+  pub found : linedOf a r w′ ≡ lined (graphOn a n w) (root + 1) s
+
+-- the links of node i, whose distance is d, taken up in the distances
+pub record Lowering (a : Areas) (n i d : ℕ) (w : List ℕ) : Type 0 where
+  pub node : AtNode a n i w
+  pub near : d ≤ farAway
+
+pub record Lowered (a : Areas) (n i d : ℕ) (w w′ : List ℕ) : Type 0 where
+  pub kept : Kept (a .distances) (a .end) w w′
+  pub distances : distancesIn a w′ ≡ relax farAway (weight (graphOn a n w)) d (graphOn a n w .links i) (distancesIn a w)
+  pub bound : top (distancesIn a w′) ≤ top (distancesIn a w)
+
+-- along a line of r nodes
+pub record Along (a : Areas) (n r : ℕ) (w : List ℕ) : Type 0 where
+  pub graph : Stands a n w
+  pub few : r ≤ a .nodes
+  pub ids : top (lineIn a r w) ≤ n
+
+pub record LoweredAlong (a : Areas) (n r : ℕ) (w w′ : List ℕ) : Type 0 where
+  pub kept : Kept (a .distances) (a .end) w w′
+  pub distances : distancesIn a w′ ≡ relaxAll farAway (weight (graphOn a n w)) (graphOn a n w) (lineIn a r w) (distancesIn a w)
+
+pub record DistancesSet (a : Areas) (n root r : ℕ) (w w′ : List ℕ) : Type 0 where
+  pub kept : Kept (a .distances) (a .end) w w′
+  pub distances : distancesIn a w′ ≡ distancesBy farAway (weight (graphOn a n w)) (graphOn a n w) (lineIn a r w) (a .nodes) root
+
+-- ---- the whole: by the model's definitions, of a graph in which children have lower ids
+
+pub record Surveyed (a : Areas) (n root : ℕ) (w : List ℕ) : Type 0 where
+  pub graph : Stands a n w
+  pub inside : root < n
+  pub falls : Acyclic (graphOn a n w)
+  pub incoming : (c : ℕ) → getD (incomingIn a w) c 0 ≡ waits (graphOn a n w) (reached (graphOn a n w) root) c
+  pub distances : (c : ℕ) → 0 < count c (reached (graphOn a n w) root) → getD (distancesIn a w) c 0 ≡ distance (graphOn a n w) root c
+
+pub record Measured (a : Areas) (n root length : ℕ) (w w′ : List ℕ) : Type 0 where
+  pub kept : Kept (a .line) (a .end) w w′
+  pub surveyed : Surveyed a n root w′
+  pub size : length ≡ tableLength (graphOn a n w) root

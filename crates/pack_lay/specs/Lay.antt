@@ -1,0 +1,40 @@
+-- docs/RULES.md, 7.9, on lent memory: orders laid: placed in the work memory and, where every offset fits, the table written in front of the output.
+use Prim.Native.Nat.{ℕ, _≤_}
+use mathlib.Core.Path.{_≡_}
+use mathlib.Core.List.{List, []}
+use Rattle.lists.specs.Lists.{over}
+use Rattle.regions.specs.Region.{Kept}
+use Rattle.model.specs.Graph.{graphOf}
+use Rattle.model.specs.Table.{Outcome, placed, overflow, firstFit, tableLength}
+use Rattle.model.specs.Session.{tableIn}
+use Rattle.layout.specs.Decode.{decode}
+use Rattle.layout.specs.Known.{Read}
+use Rattle.layout.specs.declared.state.State.{State}
+use Rattle.work.specs.declared.Areas.{Areas}
+use Rattle.order_survey.specs.Survey.{Surveyed}
+use Rattle.order_fit.specs.declared.Look.{Look}
+use Rattle.order_fit.specs.declared.Look.the-variants.{Fits, Over}
+use Rattle.order.specs.Try.{orderWith}
+use Rattle.order.specs.declared.By.{By}
+use Rattle.pack_copy.specs.Copy.{Standing}
+
+-- what laying an order from a root asks: the graph stands in the work memory m, its survey is done, and its table has room
+pub record Laying (b w : List ℕ) (s : State) (a : Areas) (root room : ℕ) (m : List ℕ) : Type 0 where
+  pub read : Read b w s
+  pub stands : Standing b w a (s .closed) m
+  pub surveyed : Surveyed a (s .closed) root m
+  pub fits : tableLength (graphOf (decode b w .closed)) root ≤ room
+
+abbrev pub lookIn : Outcome → Look
+lookIn (placed o) = Fits
+lookIn (overflow u) = Over u
+
+-- the outcome where this order alone is tried
+abbrev pub oneOrder : List ℕ → List ℕ → ℕ → By → Outcome
+oneOrder b w root by = firstFit (graphOf (decode b w .closed)) (orderWith by (graphOf (decode b w .closed)) root) []
+
+-- u came out: the look r tells it, its table is over the output, and of the work memory only the order's areas have changed
+pub record Laid (b w : List ℕ) (a : Areas) (u : Outcome) (r : Look) (out out′ m m′ : List ℕ) : Type 0 where
+  pub kept : Kept (a .keys) (a .incoming) m m′
+  pub told : r ≡ lookIn u
+  pub written : out′ ≡ over 0 (tableIn (decode b w) u) out

@@ -1,0 +1,41 @@
+-- What each area of the work memory w holds; of a list that grows, the first words.
+use Prim.Native.Nat.{ℕ}
+use mathlib.Core.List.{List}
+use lib.ListN.{getD}
+use Rattle.regions.specs.Region.{region}
+use Rattle.work.specs.declared.Areas.{Areas}
+
+-- each node's key, whatever it means
+abbrev pub keysIn : Areas → List ℕ → List ℕ
+keysIn a w = region (a .keys) (a .nodes) w
+
+abbrev pub keyIn : Areas → List ℕ → ℕ → ℕ
+keyIn a w i = getD (keysIn a w) i 0
+
+-- how many fields of nodes that are not placed yet lead to each node
+abbrev pub waitingIn : Areas → List ℕ → List ℕ
+waitingIn a w = region (a .waiting) (a .nodes) w
+
+-- the k ready nodes
+abbrev pub readyIn : Areas → ℕ → List ℕ → List ℕ
+readyIn a k w = region (a .ready) k w
+
+-- the q placed nodes
+abbrev pub orderIn : Areas → ℕ → List ℕ → List ℕ
+orderIn a q w = region (a .order) q w
+
+-- each placed node's place
+abbrev pub placesIn : Areas → List ℕ → List ℕ
+placesIn a w = region (a .places) (a .nodes) w
+
+-- the r reached nodes, parents before their children
+abbrev pub lineIn : Areas → ℕ → List ℕ → List ℕ
+lineIn a r w = region (a .line) r w
+
+-- how many fields of reached nodes lead to each node
+abbrev pub incomingIn : Areas → List ℕ → List ℕ
+incomingIn a w = region (a .incoming) (a .nodes) w
+
+-- each reached node's distance from the root
+abbrev pub distancesIn : Areas → List ℕ → List ℕ
+distancesIn a w = region (a .distances) (a .nodes) w
