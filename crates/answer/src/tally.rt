@@ -25,7 +25,7 @@ impl Tally {
 
     // One more open object, of no bytes.
     pub fn open(self) -> Self
-        requires { ⌜ self .depth < 64 ⌝ }
+        requires { ⌜ self .depth + 1 < 2 ^ 64 ⌝ }
         ensures { λ r. ⌜ r ≡ opened self ⌝ }
     {
         Tally {
@@ -51,7 +51,7 @@ impl Tally {
 
     // The innermost open object is added to the closed ones.
     pub fn add(self) -> Self
-        requires { ⌜ (self .objects < 4096) × (0 < self .depth) ⌝ }
+        requires { ⌜ (self .objects + 1 < 2 ^ 64) × (0 < self .depth) ⌝ }
         ensures { λ r. ⌜ r ≡ added self ⌝ }
     {
         Tally {

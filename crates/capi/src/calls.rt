@@ -1,11 +1,11 @@
 // The calls on the two stores.
 use answer::ObjectId;
-use numbers::Numbers;
-use numbers::tell;
-use numbers::tell_close;
+use capi_answer::Numbers;
+use capi_answer::tell;
+use capi_answer::tell_close;
 ghost use mathlib.Core.Path.{_≡_};
 ghost use Rattle.steps.specs.Runs.{start, open', put, link, close, drop, tally, stores, left, stepOn};
-ghost use Rattle.numbers.specs.Numbers.{toldIn};
+ghost use Rattle.capi_answer.specs.Numbers.{toldIn};
 
 #[no_mangle]
 pub extern "C" fn scoterlime_start(

@@ -1,7 +1,7 @@
 // How many words to lend for given limits.
 ghost use mathlib.Core.Path.{_≡_};
 ghost use Rattle.layout.specs.Words.{need};
-ghost use Rattle.layout.specs.Need.{workNeed};
+ghost use Rattle.work.specs.Areas.{workNeed};
 
 // Of u32, for the record store.
 #[no_mangle]
@@ -16,5 +16,5 @@ pub extern "C" fn scoterlime_records_need(objects: u32, links: u32) -> u64
 pub extern "C" fn scoterlime_work_need(objects: u32, links: u32) -> u64
     ensures { λ r. ⌜ r ≡ workNeed objects links ⌝ }
 {
-    order::need::work_need(objects, links) as u64
+    work::need(objects, links) as u64
 }

@@ -1,10 +1,10 @@
 // The eighth call.
 use answer::ObjectId;
-use numbers::Numbers;
-use numbers::tell_pack;
+use capi_answer::Numbers;
+use capi_answer::tell_pack;
 ghost use mathlib.Core.Path.{_≡_};
 ghost use Rattle.steps.specs.Runs.{pack, stores, packLeft, lentStep};
-ghost use Rattle.numbers.specs.Numbers.{toldIn};
+ghost use Rattle.capi_answer.specs.Numbers.{toldIn};
 
 #[no_mangle]
 pub extern "C" fn scoterlime_pack(
@@ -16,5 +16,5 @@ pub extern "C" fn scoterlime_pack(
 ) -> Numbers
     ensures { λ r. ⌜ packLeft (toldIn r) (stores (now (store .entry)) (now (records .entry))) (now (out .exit)) (now (work .exit)) ≡ lentStep (pack id (now (out .entry)) (now (work .entry))) (stores (now (store .entry)) (now (records .entry))) ⌝ }
 {
-    tell_pack(packer::pack(store, records, ObjectId(id), out, work))
+    tell_pack(pack::pack(store, records, ObjectId(id), out, work))
 }

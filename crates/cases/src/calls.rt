@@ -11,18 +11,18 @@ use report::show_words;
 fn put_few(line: &[u8], store: &mut [u8], records: &mut [u32]) {
     let mut space: [u8; 16] = [0; 16];
     let k = unhex(line, &mut space);
-    printed::put(b"put", store, records, &space[0..k]);
+    report_calls::put(b"put", store, records, &space[0..k]);
 }
 
 fn put_many(n: Three, store: &mut [u8], records: &mut [u32]) {
     let space = filled((n.first % 256) as u8);
     let bytes: &[u8] = &space;
     let k = at_most(n.second, bytes.len());
-    printed::put(b"put", store, records, &bytes[0..k]);
+    report_calls::put(b"put", store, records, &bytes[0..k]);
 }
 
 fn pack_in(id: u32, store: &[u8], records: &[u32], out: &mut [u8], work: &mut [u64]) {
-    printed::pack(store, records, ObjectId(id), out, work);
+    report_calls::pack(store, records, ObjectId(id), out, work);
     show_bytes(b"output=", out);
     show_longs(b"work=", work);
 }
@@ -44,14 +44,14 @@ fn show(store: &[u8], records: &[u32]) {
 
 pub fn call(op: u8, n: Three, line: &[u8], store: &mut [u8], records: &mut [u32]) {
     match op {
-        b's' => printed::start(store, records, n.first, n.second),
-        b'o' => printed::open(store, records),
+        b's' => report_calls::start(store, records, n.first, n.second),
+        b'o' => report_calls::open(store, records),
         b'p' => put_few(line, store, records),
         b'f' => put_many(n, store, records),
-        b'k' => printed::link(b"link", store, records, n.first, ObjectId(n.second)),
-        b'e' => printed::close(store, records),
-        b'd' => printed::drop(store, records),
-        b't' => printed::tally(store, records),
+        b'k' => report_calls::link(b"link", store, records, n.first, ObjectId(n.second)),
+        b'e' => report_calls::close(store, records),
+        b'd' => report_calls::drop(store, records),
+        b't' => report_calls::tally(store, records),
         b'a' => pack(n, store, records),
         b'v' => show(store, records),
         _ => {}

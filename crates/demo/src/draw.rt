@@ -63,7 +63,7 @@ fn offset_at(table: &[u8], place: usize, at: usize) -> usize
     if room < at + 2 {
         return 0;
     }
-    let offset = field::read(table, place + at, 2) as usize;
+    let offset = big_endian::read(table, place + at, 2) as usize;
     if room <= offset {
         return 0;
     }

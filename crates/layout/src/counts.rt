@@ -3,9 +3,8 @@ use crate::words::CLOSED_COUNT;
 use crate::words::OBJECT_LIMIT;
 use crate::words::OPEN_DEPTH;
 use crate::words::word;
-ghost use mathlib.Core.Path.{_≡_};
-ghost use mathlib.Core.Bool.{true};
-ghost use Rattle.layout.specs.Sound.{headOk};
+ghost use Rattle.layout.specs.Words.{storeLength};
+ghost use Rattle.layout.specs.Known.{Head};
 ghost use Rattle.layout.specs.Counted.{Counted};
 
 // The limit of objects, and how many are closed and open.
@@ -15,13 +14,13 @@ pub struct Counts {
     pub depth: usize,
 }
 
-pub fn read_counts(n: usize, w: &[u32]) -> Counts
-    requires { ⌜ headOk n (now w) ≡ true ⌝ }
-    ensures { λ r. ⌜ Counted (now (w .entry)) r ⌝ }
+pub fn read_counts(records: &[u32]) -> Counts
+    requires { ⌜ Head (storeLength (now records)) (now records) ⌝ }
+    ensures { λ r. ⌜ Counted (now (records .entry)) r ⌝ }
 {
     Counts {
-        objects: word(w, OBJECT_LIMIT),
-        closed: word(w, CLOSED_COUNT),
-        depth: word(w, OPEN_DEPTH),
+        objects: word(records, OBJECT_LIMIT),
+        closed: word(records, CLOSED_COUNT),
+        depth: word(records, OPEN_DEPTH),
     }
 }

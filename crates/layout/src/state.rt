@@ -24,21 +24,21 @@ pub struct State {
     pub link_low: usize,
 }
 
-pub fn read(b: &[u8], w: &[u32]) -> State
-    requires { ⌜ sound (now b) (now w) ≡ true ⌝ }
-    ensures { λ r. ⌜ Read (now (b .entry)) (now (w .entry)) r ⌝ }
+pub fn read(store: &[u8], records: &[u32]) -> State
+    requires { ⌜ sound (now store) (now records) ≡ true ⌝ }
+    ensures { λ r. ⌜ Read (now (store .entry)) (now (records .entry)) r ⌝ }
 {
-    let p = word(w, OBJECT_LIMIT);
-    let c = word(w, CLOSED_COUNT);
-    let d = word(w, OPEN_DEPTH);
+    let p = word(records, OBJECT_LIMIT);
+    let c = word(records, CLOSED_COUNT);
+    let d = word(records, OPEN_DEPTH);
     State {
         objects: p,
-        links: word(w, LINK_BEGINS_AT + p),
+        links: word(records, LINK_BEGINS_AT + p),
         closed: c,
         depth: d,
-        top: word(w, ENDS_AT + d),
-        low: word(w, BEGINS_AT + c),
-        link_top: word(w, LINK_ENDS_AT + d),
-        link_low: word(w, LINK_BEGINS_AT + p + c),
+        top: word(records, ENDS_AT + d),
+        low: word(records, BEGINS_AT + c),
+        link_top: word(records, LINK_ENDS_AT + d),
+        link_low: word(records, LINK_BEGINS_AT + p + c),
     }
 }

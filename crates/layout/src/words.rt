@@ -1,4 +1,6 @@
 // Words of the record store, and how many it needs.
+use crate::limits::MOST_OPEN;
+use model::LINK_WORDS;
 ghost use mathlib.Core.Path.{_≡_};
 ghost use Prim.Native.Nat.{_<_, _^_};
 ghost use lib.ListN.{length, getD, set};
@@ -12,32 +14,30 @@ pub const CLOSED_COUNT: usize = 1;
 pub const OPEN_DEPTH: usize = 2;
 
 // The tables of open objects: where each ends, in bytes and in links.
-pub const ENDS_AT: usize = 3;
+pub const ENDS_AT: usize = OPEN_DEPTH + 1;
 
-pub const LINK_ENDS_AT: usize = 68;
+pub const LINK_ENDS_AT: usize = ENDS_AT + MOST_OPEN + 1;
 
 // The tables of closed objects: where each begins, in bytes and, as many words further on as the object limit, in links.
-pub const BEGINS_AT: usize = 133;
+pub const BEGINS_AT: usize = LINK_ENDS_AT + MOST_OPEN + 1;
 
-pub const LINK_BEGINS_AT: usize = 134;
+pub const LINK_BEGINS_AT: usize = BEGINS_AT + 1;
 
 // The links' records, twice the object limit further on, and the words of one: its field's place, its width, its child.
-pub const LINKS_AT: usize = 135;
+pub const LINKS_AT: usize = LINK_BEGINS_AT + 1;
 
-pub const LINK_WORDS: usize = 3;
-
-pub fn word(w: &[u32], i: usize) -> usize
-    requires { ⌜ i < length (now w) ⌝ }
-    ensures { λ r. ⌜ (r ≡ getD (now (w .entry)) i 0) × (r < 2 ^ 32) ⌝ }
+pub fn word(records: &[u32], i: usize) -> usize
+    requires { ⌜ i < length (now records) ⌝ }
+    ensures { λ r. ⌜ (r ≡ getD (now (records .entry)) i 0) × (r < 2 ^ 32) ⌝ }
 {
-    w[i] as usize
+    records[i] as usize
 }
 
-pub fn store(w: &mut [u32], i: usize, v: usize)
-    requires { ⌜ (i < length (now w)) × (v < 2 ^ 32) ⌝ }
-    ensures { λ _. ⌜ now (w .exit) ≡ set (now (w .entry)) i v ⌝ }
+pub fn set_word(records: &mut [u32], i: usize, v: usize)
+    requires { ⌜ (i < length (now records)) × (v < 2 ^ 32) ⌝ }
+    ensures { λ _. ⌜ now (records .exit) ≡ set (now (records .entry)) i v ⌝ }
 {
-    w[i] = v as u32;
+    records[i] = v as u32;
 }
 
 // How many words the record store needs for these limits.

@@ -58,16 +58,19 @@ pub fn same(a: &[u8], b: &[u8]) -> bool
     true
 }
 
-// Whether every byte is zero: in runs of 4,096 without a branch, so that each is quick and the look still ends early.
+// How many bytes are looked at without a branch.
+const RUN: usize = 4096;
+
+// Whether every byte is zero: in runs without a branch, so that each is quick and the look still ends early.
 pub fn all_zero(s: &[u8]) -> bool
     ensures { λ r. ⌜ r ≡ zeros (now (s .entry)) ⌝ }
 {
     let mut i = 0;
-    while 4096 < s.len() - i {
-        if !run_zero(s, i, i + 4096) {
+    while RUN < s.len() - i {
+        if !run_zero(s, i, i + RUN) {
             return false;
         }
-        i += 4096;
+        i += RUN;
     }
     run_zero(s, i, s.len())
 }

@@ -2,47 +2,56 @@
 ghost use mathlib.Core.Path.{_≡_};
 ghost use mathlib.Core.Bool.{true};
 ghost use mathlib.Core.List.{_++_};
-ghost use Prim.Native.Nat.{_+_, _*_, _≤_};
+ghost use Prim.Native.Nat.{_+_, _/_, _≤_};
 ghost use lib.ListN.{length};
-ghost use Rattle.placing.specs.Run.{OrderIds};
-ghost use Rattle.orders.specs.Given.{given, Loaded, Ready};
+ghost use Rattle.model.specs.Words.{linkWords};
+ghost use Rattle.order_fit.specs.Fit.{Placing};
+ghost use Rattle.orders.specs.Given.{given, Loaded, Stood, Ready};
 use answer::Overflow;
-use fitting::Look;
-use order::trial::try_order;
+use model::LINK_WORDS;
+use order::By;
+use order::try_order;
+use order_fit::Look;
+use order_fit::node_at;
+use order_survey::survey;
 use report::print_next;
 use report::text;
 use report::value;
+use work::Areas;
+
+// Enough words for the largest of the graphs.
+const SPACE: usize = 96;
 
 // The r placed nodes.
-fn print_ids(work: &[u64], p: usize, g: usize, r: usize)
-    requires { ⌜ (g + p * 6 ≤ length (now work)) × OrderIds p g p r (now work) ⌝ }
+fn print_ids(work: &[u64], a: Areas, n: usize, r: usize)
+    requires { ⌜ Placing a n r (now work) ⌝ }
 {
     let mut t = 0;
     while t < r {
-        print_next(t, work[g + p * 4 + t]);
+        print_next(t, node_at(work, a, n, r, t) as u64);
         t += 1;
     }
 }
 
 // The place of each.
-fn print_places(work: &[u64], p: usize, g: usize, r: usize)
-    requires { ⌜ (g + p * 6 ≤ length (now work)) × OrderIds p g p r (now work) ⌝ }
+fn print_places(work: &[u64], a: Areas, n: usize, r: usize)
+    requires { ⌜ Placing a n r (now work) ⌝ }
 {
     let mut t = 0;
     while t < r {
-        let i = work[g + p * 4 + t] as usize;
-        print_next(t, work[g + p * 5 + i]);
+        let j = a.places + node_at(work, a, n, r, t);
+        print_next(t, work[j]);
         t += 1;
     }
 }
 
-fn print_order(name: &[u8], work: &[u64], p: usize, g: usize, r: usize)
-    requires { ⌜ (g + p * 6 ≤ length (now work)) × OrderIds p g p r (now work) ⌝ }
+fn print_order(name: &[u8], work: &[u64], a: Areas, n: usize, r: usize)
+    requires { ⌜ Placing a n r (now work) ⌝ }
 {
     text(name);
-    print_ids(work, p, g, r);
+    print_ids(work, a, n, r);
     text(b"\nplaces=");
-    print_places(work, p, g, r);
+    print_places(work, a, n, r);
 }
 
 fn print_overflow(o: Overflow) {
@@ -61,21 +70,24 @@ fn print_look(look: Look) {
     text(b"\n");
 }
 
-fn show_order(name: &[u8], work: &mut [u64], p: usize, g: usize, keyed: bool)
-    requires { ⌜ Ready p g (now work) ⌝ }
-    ensures { λ _. ⌜ Ready p g (now (work .exit)) ⌝ }
+fn show_order(name: &[u8], work: &mut [u64], a: Areas, by: By)
+    requires { ⌜ Ready a (now work) ⌝ }
+    ensures { λ _. ⌜ Ready a (now (work .exit)) ⌝ }
 {
-    let a = try_order(work, p, g, p, p - 1, keyed);
-    print_order(name, work, p, g, a.placed);
-    let look = a.look;
+    let n = a.nodes;
+    let tried = try_order(work, a, n, n - 1, by);
+    print_order(name, work, a, n, tried.placed);
+    let look = tried.look;
     print_look(look);
 }
 
-fn show_orders(work: &mut [u64], p: usize, g: usize)
-    requires { ⌜ Ready p g (now work) ⌝ }
+fn show_orders(work: &mut [u64], a: Areas)
+    requires { ⌜ Stood a (now work) ⌝ }
 {
-    show_order(b"\nkahn=", work, p, g, false);
-    show_order(b"distance=", work, p, g, true);
+    let n = a.nodes;
+    survey(work, a, n, n - 1);
+    show_order(b"\nkahn=", work, a, By::Readiness);
+    show_order(b"distance=", work, a, By::Distance);
 }
 
 fn print_name(name: &[u8]) {
@@ -97,14 +109,14 @@ fn load(words: &[u64], work: &mut [u64], at: usize)
 
 // Nodes: p sizes, p numbers of first links, p counts of links. A link: field place, width, child. The last node is the root.
 fn show(name: &[u8], nodes: &[u64], links: &[u64], p: usize)
-    requires { ⌜ given p (now nodes ++ now links) ≡ true ⌝ }
+    requires { ⌜ given p (length (now links) / linkWords) (now nodes ++ now links) ≡ true ⌝ }
 {
-    let mut space: [u64; 96] = [0; 96];
+    let mut space: [u64; SPACE] = [0; SPACE];
     let work: &mut [u64] = &mut space;
     load(nodes, work, 0);
     load(links, work, nodes.len());
     print_name(name);
-    show_orders(work, p, nodes.len() + links.len());
+    show_orders(work, Areas::of(p, links.len() / LINK_WORDS));
 }
 
 fn graph_5() {

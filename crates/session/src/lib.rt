@@ -11,13 +11,13 @@ use soundness::is_sound;
 ghost use mathlib.Core.Path.{_≡_};
 ghost use Rattle.model.specs.Told.{toldBy, toldByClose};
 ghost use Rattle.steps.specs.Runs.{open', put, link, close, drop, tally, stores, left, stepOn};
-pub use closing::close_sound;
-pub use counting::tally_sound;
-pub use dropping::drop_sound;
-pub use linking::link_sound;
-pub use opening::open_sound;
-pub use putting::put_sound;
-pub use starting::start;
+pub use session_close::close_sound;
+pub use session_drop::drop_sound;
+pub use session_link::link_sound;
+pub use session_open::open_sound;
+pub use session_put::put_sound;
+pub use session_start::start;
+pub use session_tally::tally_sound;
 
 // 12 where the session is not sound, 2 where 64 objects are open.
 pub fn open(store: &[u8], records: &mut [u32]) -> Answer

@@ -1,0 +1,54 @@
+// Offset fields: written and read the highest byte first, and how much they hold; one function for every width.
+ghost use mathlib.Core.Path.{_≡_};
+ghost use Prim.Native.Nat.{_+_, _≤_};
+ghost use lib.ListN.{length};
+ghost use Rattle.lists.specs.Lists.{part, over};
+ghost use Rattle.big_endian.specs.BigEndian.{capacity, bigEndian, readBig};
+
+// Writes n into the field of `width` bytes at `at`. Of a number that the width cannot hold, the low bytes are written.
+pub fn write(out: &mut [u8], at: usize, width: usize, n: u64)
+    requires { ⌜ at + width ≤ length (now out) ⌝ }
+    ensures { λ _. ⌜ now (out .exit) ≡ over at (bigEndian width n) (now (out .entry)) ⌝ }
+{
+    let mut rest = n;
+    let mut left = width;
+    while 0 < left {
+        left -= 1;
+        out[at + left] = (rest % 256) as u8;
+        rest = rest / 256;
+    }
+}
+
+// The number in the field of `width` bytes at `at`.
+pub fn read(s: &[u8], at: usize, width: usize) -> u64
+    requires { ⌜ (at + width ≤ length (now s)) × (width ≤ 8) ⌝ }
+    ensures { λ r. ⌜ r ≡ readBig (part at (at + width) (now (s .entry))) ⌝ }
+{
+    let mut n: u64 = 0;
+    let mut i = 0;
+    while i < width {
+        n = n * 256 + wide(s[at + i]);
+        i += 1;
+    }
+    n
+}
+
+// How many numbers a field of `width` bytes holds.
+pub fn capacity(width: usize) -> u64
+    requires { ⌜ width ≤ 7 ⌝ }
+    ensures { λ r. ⌜ r ≡ capacity width ⌝ }
+{
+    let mut n: u64 = 1;
+    let mut i = 0;
+    while i < width {
+        n = n * 256;
+        i += 1;
+    }
+    n
+}
+
+fn wide(x: u8) -> u64
+    ensures { λ r. ⌜ r ≡ x ⌝ }
+{
+    x as u64
+}

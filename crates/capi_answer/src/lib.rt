@@ -1,0 +1,78 @@
+// An answer as ten numbers. Values that a call does not have are 0.
+use answer::Answer;
+use answer::Closing;
+use answer::Overflow;
+use answer::Packing;
+use answer::Refusal;
+use answer::Tally;
+use answer::named_by;
+use answer::nowhere;
+use answer::number_of;
+ghost use mathlib.Core.Path.{_≡_};
+ghost use Rattle.model.specs.Told.{refusedTold, toldBy, toldByClose, toldByPack};
+ghost use Rattle.capi_answer.specs.Numbers.{toldIn};
+
+#[repr(C)]
+pub struct Numbers {
+    pub number: u64,
+    pub bytes: u64,
+    pub links: u64,
+    pub objects: u64,
+    pub depth: u64,
+    pub id: u64,
+    pub length: u64,
+    pub parent: u64,
+    pub field: u64,
+    pub needed: u64,
+}
+
+fn ten(number: u64, t: Tally, id: u64, length: u64, o: Overflow) -> Numbers
+    ensures { λ r. ⌜ toldIn r ≡ record { number = number; tally = t; id = id; length = length; overflow = o } ⌝ }
+{
+    let parent = o.parent;
+    Numbers {
+        number,
+        bytes: t.bytes as u64,
+        links: t.links as u64,
+        objects: t.objects as u64,
+        depth: t.depth as u64,
+        id,
+        length,
+        parent: parent.0 as u64,
+        field: o.field as u64,
+        needed: o.needed as u64,
+    }
+}
+
+fn tell_refused(why: Refusal, t: Tally) -> Numbers
+    ensures { λ r. ⌜ toldIn r ≡ refusedTold why t ⌝ }
+{
+    ten(number_of(why), t, 0, 0, named_by(why))
+}
+
+pub fn tell(a: Answer) -> Numbers
+    ensures { λ r. ⌜ toldIn r ≡ toldBy a ⌝ }
+{
+    match a {
+        Answer::Done(t) => ten(0, t, 0, 0, nowhere()),
+        Answer::Refused(why, t) => tell_refused(why, t),
+    }
+}
+
+pub fn tell_close(a: Closing) -> Numbers
+    ensures { λ r. ⌜ toldIn r ≡ toldByClose a ⌝ }
+{
+    match a {
+        Closing::Done(id, t) => ten(0, t, id.0 as u64, 0, nowhere()),
+        Closing::Refused(why, t) => tell_refused(why, t),
+    }
+}
+
+pub fn tell_pack(a: Packing) -> Numbers
+    ensures { λ r. ⌜ toldIn r ≡ toldByPack a ⌝ }
+{
+    match a {
+        Packing::Done(n, t) => ten(0, t, 0, n as u64, nowhere()),
+        Packing::Refused(why, t) => tell_refused(why, t),
+    }
+}

@@ -1,0 +1,76 @@
+// Reading the graph in the first words of the work memory.
+use answer::ObjectId;
+use big_endian::capacity;
+use model::LINK_WORDS;
+use work::Areas;
+ghost use mathlib.Core.Path.{_≡_};
+ghost use Prim.Native.Nat.{_+_, _*_, _<_};
+ghost use lib.ListN.{take};
+ghost use Rattle.model.specs.Words.{linkWords};
+ghost use Rattle.order_graph.specs.Graph.{AtNode, AtLink, FieldOf, EdgeOf, linksAt, linkCount, objectOf, mostNodes};
+
+// A link: its field's place and width, and the child.
+pub struct Field {
+    pub at: usize,
+    pub width: usize,
+    pub child: usize,
+}
+
+// A link's child and weight.
+pub struct Edge {
+    pub child: usize,
+    pub weight: u64,
+}
+
+// The id under which a node is told, and by which its bytes are found.
+pub fn object_of(i: usize) -> ObjectId
+    requires { ⌜ i < mostNodes ⌝ }
+    ensures { λ r. ⌜ r ≡ objectOf i ⌝ }
+{
+    ObjectId(i as u32)
+}
+
+// How many links node i has.
+pub fn link_count(work: &[u64], a: Areas, n: usize, i: usize) -> usize
+    requires { ⌜ AtNode a n i (now work) ⌝ }
+    ensures { λ r. ⌜ r ≡ linkCount a (take (a .keys) (now (work .entry))) i ⌝ }
+{
+    let at = a.counts + i;
+    work[at] as usize
+}
+
+// Where the words of link t of node i begin.
+fn words_at(work: &[u64], a: Areas, n: usize, i: usize, t: usize) -> usize
+    requires { ⌜ AtLink a n i t (now work) ⌝ }
+    ensures { λ r. ⌜ (r + 2 < a .keys) × (r ≡ linksAt a (take (a .keys) (now (work .entry))) i + t * linkWords) ⌝ }
+{
+    let at = a.firsts + i;
+    let first = work[at] as usize;
+    a.links + first * LINK_WORDS + t * LINK_WORDS
+}
+
+// Link t of node i.
+pub fn field_at(work: &[u64], a: Areas, n: usize, i: usize, t: usize) -> Field
+    requires { ⌜ AtLink a n i t (now work) ⌝ }
+    ensures { λ r. ⌜ FieldOf a n (take (a .keys) (now (work .entry))) i t (r .at) (r .width) (r .child) ⌝ }
+{
+    let j = words_at(work, a, n, i, t);
+    Field {
+        at: work[j] as usize,
+        width: work[j + 1] as usize,
+        child: work[j + 2] as usize,
+    }
+}
+
+// The child and the weight of link t of node i.
+pub fn edge_at(work: &[u64], a: Areas, n: usize, i: usize, t: usize) -> Edge
+    requires { ⌜ AtLink a n i t (now work) ⌝ }
+    ensures { λ r. ⌜ EdgeOf a n (take (a .keys) (now (work .entry))) i t (r .child) (r .weight) ⌝ }
+{
+    let f = field_at(work, a, n, i, t);
+    let child = f.child;
+    Edge {
+        child: child,
+        weight: work[child] + capacity(f.width),
+    }
+}

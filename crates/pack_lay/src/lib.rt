@@ -1,0 +1,55 @@
+// An order laid: tried, and its table written where every offset fits.
+use layout::state::State;
+use order::By;
+use order::try_order;
+use order_fit::Look;
+use pack_write::write_table;
+use work::Areas;
+ghost use lib.ListN.{length};
+ghost use Rattle.model.specs.Graph.{graphOf};
+ghost use Rattle.model.specs.Table.{arranged};
+ghost use Rattle.layout.specs.Decode.{decode};
+ghost use Rattle.pack_lay.specs.Lay.{Laying, Laid, oneOrder};
+
+// One order tried, and its table written where every offset fits.
+fn lay_order(
+    store: &[u8],
+    records: &[u32],
+    s: State,
+    a: Areas,
+    root: usize,
+    by: By,
+    out: &mut [u8],
+    work: &mut [u64],
+) -> Look
+    requires { ⌜ Laying (now store) (now records) s a root (length (now out)) (now work) ⌝ }
+    ensures { λ r. ⌜ Laid (now (store .entry)) (now (records .entry)) a (oneOrder (now (store .entry)) (now (records .entry)) root by) r (now (out .entry)) (now (out .exit)) (now (work .entry)) (now (work .exit)) ⌝ }
+{
+    let tried = try_order(work, a, s.closed, root, by);
+    let look = tried.look;
+    let Look::Fits = look else {
+        return look;
+    };
+    write_table(out, store, records, s, a, work, tried.placed);
+    Look::Fits
+}
+
+// The plain order, or where some offset does not fit in it the distance order.
+pub fn lay_first_fit(
+    store: &[u8],
+    records: &[u32],
+    s: State,
+    a: Areas,
+    root: usize,
+    out: &mut [u8],
+    work: &mut [u64],
+) -> Look
+    requires { ⌜ Laying (now store) (now records) s a root (length (now out)) (now work) ⌝ }
+    ensures { λ r. ⌜ Laid (now (store .entry)) (now (records .entry)) a (arranged (graphOf (decode (now (store .entry)) (now (records .entry)) .closed)) root) r (now (out .entry)) (now (out .exit)) (now (work .entry)) (now (work .exit)) ⌝ }
+{
+    let look = lay_order(store, records, s, a, root, By::Readiness, out, work);
+    let Look::Over(_) = look else {
+        return look;
+    };
+    lay_order(store, records, s, a, root, By::Distance, out, work)
+}

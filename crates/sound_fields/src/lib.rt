@@ -1,0 +1,120 @@
+// Tests of objects: whether the fields of every open and every closed one are right.
+use layout::counts::read_counts;
+use layout::span::Span;
+use layout::span::closed_span;
+use layout::span::open_span;
+use layout::words::LINKS_AT;
+use layout::words::word;
+use model::LINK_WORDS;
+ghost use mathlib.Core.Path.{_≡_};
+ghost use Prim.Native.Nat.{_+_, _*_, _<_};
+ghost use lib.ListN.{length};
+ghost use Rattle.lists.specs.Lists.{holds};
+ghost use Rattle.model.specs.Object.{widthOk};
+ghost use Rattle.layout.specs.Words.{linkWords, linksOf, linkAt, openDepth, closedCount, linksAt};
+ghost use Rattle.layout.specs.Fields.{fieldTests, fieldsOk, objectOk};
+ghost use mathlib.Core.Bool.{true};
+ghost use Rattle.layout.specs.Tables.{forAll};
+ghost use Rattle.layout.specs.Decode.{objectIn, openAt, closedAt};
+ghost use Rattle.layout.specs.Sound.{tableTests};
+ghost use Rattle.layout.specs.Spans.{Within};
+ghost use Rattle.layout.specs.Known.{Head};
+
+pub fn width_ok(width: usize) -> bool
+    ensures { λ r. ⌜ r ≡ widthOk width ⌝ }
+{
+    (width == 2) | (width == 4)
+}
+
+// One link's field, its words from index i on.
+fn field_ok(bytes: &[u8], links: &[u32], i: usize, from: usize, kids: usize) -> bool
+    requires { ⌜ i + 2 < length (now links) ⌝ }
+    ensures { λ r. ⌜ r ≡ holds (fieldTests kids from (now (bytes .entry)) (linkAt (now (links .entry)) i)) ⌝ }
+{
+    let at = word(links, i);
+    let width = word(links, i + 1);
+    let child = word(links, i + 2);
+    let end = at + width;
+    if at < from {
+        return false;
+    }
+    if !width_ok(width) {
+        return false;
+    }
+    if bytes.len() < end {
+        return false;
+    }
+    if kids <= child {
+        return false;
+    }
+    memory::bytes::all_zero(&bytes[at..end])
+}
+
+// Every field of an object of these bytes and these links' words, whose children are below `kids`.
+pub fn object_ok(bytes: &[u8], links: &[u32], count: usize, kids: usize) -> bool
+    requires { ⌜ length (now links) ≡ count * linkWords ⌝ }
+    ensures { λ r. ⌜ r ≡ fieldsOk kids 0 (now (bytes .entry)) (linksOf (now (links .entry))) ⌝ }
+{
+    let mut from = 0;
+    let mut i = 0;
+    let mut left = count;
+    while 0 < left {
+        if !field_ok(bytes, links, i, from, kids) {
+            return false;
+        }
+        from = word(links, i) + word(links, i + 1);
+        i += LINK_WORDS;
+        left -= 1;
+    }
+    true
+}
+
+// The fields of the object that lies there, the links' records beginning at index `base`.
+fn span_ok(store: &[u8], records: &[u32], base: usize, s: Span, kids: usize) -> bool
+    requires { ⌜ (base ≡ linksAt (now records)) × Head (length (now store)) (now records) × Within (now records) s ⌝ }
+    ensures { λ r. ⌜ r ≡ objectOk kids (objectIn (now (store .entry)) (now (records .entry)) s) ⌝ }
+{
+    let from = s.from;
+    let to = s.to;
+    let first = s.first;
+    let last = s.last;
+    let begin = base + first * LINK_WORDS;
+    let end = base + last * LINK_WORDS;
+    object_ok(&store[from..to], &records[begin..end], last - first, kids)
+}
+
+// The fields of every open object.
+pub fn opens_ok(store: &[u8], records: &[u32]) -> bool
+    requires { ⌜ Head (length (now store)) (now records) × (holds (tableTests (now records)) ≡ true) ⌝ }
+    ensures { λ r. ⌜ r ≡ forAll (λ d. objectOk (closedCount (now (records .entry))) (openAt (now (store .entry)) (now (records .entry)) d)) (openDepth (now (records .entry))) ⌝ }
+{
+    let k = read_counts(records);
+    let kids = k.closed;
+    let base = LINKS_AT + k.objects * 2;
+    let mut d = k.depth;
+    while 0 < d {
+        d -= 1;
+        if !span_ok(store, records, base, open_span(records, d), kids) {
+            return false;
+        }
+    }
+    true
+}
+
+// The fields of every closed object: its children are below it.
+pub fn closed_ok(store: &[u8], records: &[u32]) -> bool
+    requires { ⌜ Head (length (now store)) (now records) × (holds (tableTests (now records)) ≡ true) ⌝ }
+    ensures { λ r. ⌜ r ≡ forAll (λ i. objectOk i (closedAt (now (store .entry)) (now (records .entry)) i)) (closedCount (now (records .entry))) ⌝ }
+{
+    let k = read_counts(records);
+    let p = k.objects;
+    let base = LINKS_AT + p * 2;
+    let mut i = k.closed;
+    while 0 < i {
+        i -= 1;
+        if !span_ok(store, records, base, closed_span(records, p, i), i) {
+            return false;
+        }
+    }
+    true
+}

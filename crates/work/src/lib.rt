@@ -1,0 +1,66 @@
+// The work memory of a pack: where each of its arrays begins, how many words it needs, and those words cleared.
+use model::LINK_WORDS;
+ghost use mathlib.Core.Path.{_≡_};
+ghost use Prim.Native.Nat.{_≤_, _<_, _^_};
+ghost use lib.ListN.{length, replicate};
+ghost use Rattle.lists.specs.Lists.{over};
+ghost use Rattle.work.specs.Areas.{areasOf, workNeed};
+
+// Where each array begins, and how many nodes there is room for. The sizes begin at 0.
+pub struct Areas {
+    pub nodes: usize,
+    pub firsts: usize,
+    pub counts: usize,
+    pub links: usize,
+    pub keys: usize,
+    pub waiting: usize,
+    pub ready: usize,
+    pub places: usize,
+    pub order: usize,
+    pub line: usize,
+    pub incoming: usize,
+    pub distances: usize,
+    pub end: usize,
+}
+
+impl Areas {
+    // Room for so many nodes and links.
+    pub fn of(nodes: usize, links: usize) -> Self
+        requires { ⌜ (nodes < 2 ^ 32) × (links < 2 ^ 32) ⌝ }
+        ensures { λ r. ⌜ r ≡ areasOf nodes links ⌝ }
+    {
+        let g = nodes * 3 + links * LINK_WORDS;
+        Areas {
+            nodes,
+            firsts: nodes,
+            counts: nodes * 2,
+            links: nodes * 3,
+            keys: g,
+            waiting: g + nodes,
+            ready: g + nodes * 2,
+            places: g + nodes * 2,
+            order: g + nodes * 3,
+            line: g + nodes * 3,
+            incoming: g + nodes * 4,
+            distances: g + nodes * 5,
+            end: g + nodes * 6,
+        }
+    }
+}
+
+// How many words a pack needs for these limits.
+pub fn need(objects: u32, links: u32) -> usize
+    ensures { λ r. ⌜ r ≡ workNeed objects links ⌝ }
+{
+    let a = Areas::of(objects as usize, links as usize);
+    a.end
+}
+
+// Zeroes the words of all areas. The surplus stands.
+pub fn clear(work: &mut [u64], a: Areas)
+    requires { ⌜ a .end ≤ length (now work) ⌝ }
+    ensures { λ _. ⌜ now (work .exit) ≡ over 0 (replicate (a .end) 0) (now (work .entry)) ⌝ }
+{
+    let end = a.end;
+    memory::longs::clear(work, 0, end);
+}
