@@ -13,7 +13,7 @@ use Rattle.model.specs.Judge.{mostBytes, mostOpen, inRange}
 use Rattle.layout.specs.Tables.{rises, falls}
 use Rattle.layout.specs.Words.{objectLimit, closedCount, openDepth, endsAt, linkEndsAt, beginsAt, linkBeginsAt, need, storeLength, linkLimit, limitsIn, ends, linkEnds, begins, linkBegins, top, linkTop, low, linkLow}
 use Rattle.layout.specs.Sound.{headTests, headOk, tableTests, soundTests, sound}
-use Rattle.layout.specs.Known.{Head, Sound, Read}
+use Rattle.layout.specs.Known.{Head, Sound, Read, Tested, WordsRead}
 use Rattle.layout.specs.declared.state.State.{State}
 use Rattle.layout.proofs.Entries.{Rising, Falling, rising-table, falling-table}
 
@@ -37,8 +37,12 @@ head-facts n w h =
       linkBase = eqb-true _ _ (at 6);
     }
 
-pub head-long : (n : ℕ) (w : List ℕ) → headOk n w ≡ true → 135 + objectLimit w * 2 ≤ length w
-head-long n w h = omega (arith, head-facts n w h .room)
+-- by the words alone: the byte store's length is noted in them
+pub own-head : {n : ℕ} {w : List ℕ} → Head n w → Head (storeLength w) w
+own-head h = rw (h .size) h
+
+pub tested : {n : ℕ} {w : List ℕ} → Head n w → holds (tableTests w) ≡ true → Tested w
+tested h t = record { head = own-head h; tables = t }
 
 -- what cannot be is refused
 pub head-not : (n : ℕ) (w : List ℕ) → (Head n w → ⊥) → false ≡ headOk n w
@@ -138,3 +142,25 @@ sound-of s = simp (head-of (s .head), tables-of s, s .gap, s .opens, s .closed)
 
 pub sound-known : {b w : List ℕ} {s : State} → Read b w s → Sound b w
 sound-known r = sound-facts _ _ (r .isSound)
+
+-- the same by the words alone
+pub words-read : {b w : List ℕ} {s : State} → Read b w s → WordsRead w s
+words-read {b} {w} {s} r =
+    let k = sound-known r .head in
+    record {
+      is = λ i. record {
+        objects = r .objectsIs i;
+        links = r .linksIs i;
+        closed = r .closedIs i;
+        depth = r .depthIs i;
+        top = r .topIs i;
+        low = r .lowIs i;
+        «link_top» = r .linkTopIs i;
+        «link_low» = r .linkLowIs i;
+      };
+      bounds = rw (k .size) (r .bounds);
+      tested = tested k (sound-tests b w (r .isSound));
+    }
+
+pub size-known : {b w : List ℕ} {s : State} → Read b w s → storeLength w ≡ length b
+size-known r = sound-known r .head .size

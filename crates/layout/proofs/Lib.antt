@@ -2,3 +2,4 @@ pub mod Entries
 pub mod Facts
 pub mod FieldTests
 pub mod Links
+pub mod Spans

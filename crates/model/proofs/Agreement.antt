@@ -16,7 +16,7 @@ use Rattle.model.specs.Table.{Outcome, placed, overflow, arranged, table
 use Rattle.model.specs.Reading.{Reading, readingAt, readings}
 use Rattle.model.specs.Judge.{Limits, Verdict, accepted, refused, judgeStart, judgeOpen, judgePut, judgeLink, judgeClose, judgeDrop, judgeTally, judgePack}
 use Rattle.model.specs.Told.{doneClose, donePack, refusal}
-use Rattle.model.specs.Session.{Needs, Session, tallyOf, started, withOpens, innermost, outer, onInnermost, twin, sealed, SessionCall, startCall, openCall, putCall, linkCall, closeCall, dropCall, tallyCall, Left, settle, step, PackLeft, content, tableIn, settlePack, pack, Call, sessionCall, packCall, afterCall}
+use Rattle.model.specs.Session.{Needs, Session, tallyOf, started, withOpens, innermost, outer, onInnermost, twin, sealed, SessionCall, startCall, openCall, putCall, linkCall, closeCall, dropCall, tallyCall, Left, settleCall, step, PackLeft, content, tableIn, settlePack, pack, Call, sessionCall, packCall, afterCall}
 use Rattle.model.specs.History.{History, counts, begun, judged, accept, next, after, idTold, tell, expected, Packed, PackAgrees, Agrees, AllAgree}
 use Rattle.model.proofs.Reach.{reached-rooted, reached-low}
 use Rattle.model.proofs.Tables.{layout}
@@ -41,15 +41,15 @@ left i s = record { told = doneClose i (tallyOf s); after = s }
 module _ (n : Needs) {s : Session} {h : History} (m : Mirrors s h) where
   -- so is every call that is judged alike, tells the same id and, where it is accepted, leaves what mirrors the history's change
   settled : (c : SessionCall) (v : Verdict) (i : ℕ) (new : Session) → v ≡ judged n c h → i ≡ idTold c h → (v ≡ accepted → Mirrors new (accept c h))
-      → Follows n c h (settle v s (left i new))
+      → Follows n c h (settleCall v s (left i new))
   unfolding expected after
   settled c v i new e f k = record { told = rw (← e, ← f) (tells v k); mirrors = rw (← e) (keeps v k) }
     where
-      tells : (v : Verdict) → (v ≡ accepted → Mirrors new (accept c h)) → settle v s (left i new) .told ≡ tell v (counts h) (doneClose i (counts (accept c h)))
+      tells : (v : Verdict) → (v ≡ accepted → Mirrors new (accept c h)) → settleCall v s (left i new) .told ≡ tell v (counts h) (doneClose i (counts (accept c h)))
       tells accepted k = ap (doneClose i) (mirrors-counts (k refl))
       tells (refused why) k = ap (refusal why) (mirrors-counts m)
 
-      keeps : (v : Verdict) → (v ≡ accepted → Mirrors new (accept c h)) → Mirrors (settle v s (left i new) .after) (next v (accept c h) h)
+      keeps : (v : Verdict) → (v ≡ accepted → Mirrors new (accept c h)) → Mirrors (settleCall v s (left i new) .after) (next v (accept c h) h)
       keeps accepted k = k refl
       keeps (refused why) k = m
 

@@ -8,7 +8,7 @@ use borrow.Author.Tests.{lt-ltb}
 use lib.ListN.{take}
 use lib.Dec.{eqb}
 use Rattle.lists.specs.Lists.{pick, total}
-use Rattle.field.specs.BigEndian.{capacity, fits}
+use Rattle.big_endian.specs.BigEndian.{capacity, fits}
 use Rattle.model.specs.Bag.{count}
 use Rattle.model.specs.Object.{Link, Object, objectAt, sizeOf}
 use Rattle.model.specs.Graph.{Graph, graphOf, kids, reachDown, reached, Closed}

@@ -3,7 +3,7 @@ use mathlib.Core.Path.{_≡_, refl}
 use mathlib.Core.List.{[], _∷_, map}
 use mathlib.Core.Bool.{true}
 use Rattle.lists.specs.Lists.{sameList, total, firstThat, over, holds}
-use Rattle.field.specs.BigEndian.{bigEndian}
+use Rattle.big_endian.specs.BigEndian.{bigEndian}
 use Rattle.model.specs.Bag.{one, count, without, zerosOf, lastOnce, least}
 use Rattle.model.specs.Graph.{kidsOf, waits, reachDown, reached}
 use Rattle.model.specs.Order.{orderFrom, orderBy}

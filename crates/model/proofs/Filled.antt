@@ -8,8 +8,8 @@ use lib.ListN.{length, take, drop, getD, length-append, take-append-drop}
 use lib.Seq.{take-at, drop-at, length-take-le}
 use Rattle.lists.specs.Lists.{part, over}
 use Rattle.lists.proofs.Over.{length-over, over-take}
-use Rattle.field.specs.BigEndian.{bigEndian}
-use Rattle.field.proofs.Laws.{length-big, field-before, field-after}
+use Rattle.big_endian.specs.BigEndian.{bigEndian}
+use Rattle.big_endian.proofs.Laws.{length-big, field-before, field-after}
 use Rattle.model.specs.Object.{Link}
 use Rattle.model.specs.Distance.{In, here, there}
 use Rattle.model.specs.Table.{filled, FieldsIn}

@@ -8,26 +8,58 @@ use Rattle.answer.specs.declared.Overflow.{Overflow}
 use Rattle.model.specs.Bag.{count}
 use Rattle.model.specs.Graph.{Graph, reached, Acyclic, ParentsFirst}
 use Rattle.model.specs.Distance.{distance, kahnOrder, distanceOrder}
-use Rattle.model.specs.Table.{unfit, placed, overflow, tryOrder, tryLast, firstFit, arranged}
+use Rattle.model.specs.Table.{unfit, Outcome, placed, overflow, tryOrder, tryLast, firstFit, arranged, FirstFit, here, later, NoneFits, last, earlier}
 use Rattle.model.proofs.Orders.{orderBy-once, orderBy-first}
 
--- ---- the three outcomes
+-- ---- what an outcome says of the list of orders, and what it follows from
 
-module _ (g : Graph) (root : ℕ) where
-  -- every link fits in the plain order
-  pub kahn-placed : unfit g (kahnOrder g root) ≡ [] → arranged g root ≡ placed (kahnOrder g root)
-  unfolding arranged firstFit tryOrder
-  kahn-placed e = rw e
+module _ (g : Graph) where
+  some-unfit : {u : Overflow} {us l : List Overflow} → l ≡ u ∷ us → l ≡ [] → ⊥
+  some-unfit e f = let z : _≡_ {A = ℕ} 0 1 = cc in omega arith
 
-  -- one does not, and every one fits in the distance order
-  pub distance-placed : {u : Overflow} {us : List Overflow} → unfit g (kahnOrder g root) ≡ u ∷ us → unfit g (distanceOrder g root) ≡ [] → arranged g root ≡ placed (distanceOrder g root)
-  unfolding arranged firstFit tryOrder tryLast
-  distance-placed e f = rw (e, f)
+  pub data Seen (os : List (List ℕ)) : Outcome → Type 0 where
+    fit : {o : List ℕ} → FirstFit g o os → Seen os (placed o)
+    unfits : {v : Overflow} → NoneFits g v os → Seen os (overflow v)
 
-  -- neither order fits: the distance order's first overflow
-  pub none-placed : {u v : Overflow} {us vs : List Overflow} → unfit g (kahnOrder g root) ≡ u ∷ us → unfit g (distanceOrder g root) ≡ v ∷ vs → arranged g root ≡ overflow v
-  unfolding arranged firstFit tryOrder tryLast
-  none-placed e f = rw (e, f)
+  seen-later : {p : List ℕ} {os : List (List ℕ)} {x : Outcome} → (unfit g p ≡ [] → ⊥) → Seen os x → Seen (p ∷ os) x
+  seen-later n (fit f) = fit (later n f)
+  seen-later n (unfits f) = unfits (earlier n f)
+
+  pub seen : (o : List ℕ) (os : List (List ℕ)) → Seen (o ∷ os) (firstFit g o os)
+  unfolding firstFit tryOrder tryLast
+  seen o [] = go (unfit g o) refl
+    where
+      go : (us : List Overflow) → unfit g o ≡ us → Seen (o ∷ []) (tryLast us o)
+      go [] e = fit (here refl e)
+      go (u ∷ us) e = unfits (last e)
+  seen o (p ∷ ps) = go (unfit g o) refl (seen p ps)
+    where
+      go : (us : List Overflow) → unfit g o ≡ us → Seen (p ∷ ps) (firstFit g p ps) → Seen (o ∷ p ∷ ps) (tryOrder us o (firstFit g p ps))
+      go [] e r = fit (here refl e)
+      go (u ∷ us) e r = seen-later (some-unfit e) r
+
+  -- an order that fits stands; one that does not gives way to those after it
+  fits-first : (o : List ℕ) (os : List (List ℕ)) → unfit g o ≡ [] → firstFit g o os ≡ placed o
+  unfolding firstFit tryOrder tryLast
+  fits-first o [] e = rw e
+  fits-first o (p ∷ ps) e = rw e
+
+  unfit-next : (o p : List ℕ) (ps : List (List ℕ)) → (unfit g o ≡ [] → ⊥) → firstFit g o (p ∷ ps) ≡ firstFit g p ps
+  unfolding firstFit tryOrder
+  unfit-next o p ps n = go (unfit g o) refl
+    where
+      go : (us : List Overflow) → unfit g o ≡ us → tryOrder us o (firstFit g p ps) ≡ firstFit g p ps
+      go [] e = absurd (n e)
+      go (u ∷ us) e = refl
+
+  pub fit-placed : {t : List ℕ} (o : List ℕ) (os : List (List ℕ)) → FirstFit g t (o ∷ os) → firstFit g o os ≡ placed t
+  fit-placed o os (here e f) = rw e (fits-first o os (rw e at f))
+  fit-placed o (p ∷ ps) (later n f) = unfit-next o p ps n ∙ fit-placed p ps f
+
+  pub none-placed : {v : Overflow} (o : List ℕ) (os : List (List ℕ)) → NoneFits g v (o ∷ os) → firstFit g o os ≡ overflow v
+  unfolding firstFit tryLast
+  none-placed o [] (last e) = rw e
+  none-placed o (p ∷ ps) (earlier n f) = unfit-next o p ps n ∙ none-placed p ps f
 
 -- ---- an order that is placed
 

@@ -10,8 +10,8 @@ use lib.ListN.{length, take, drop, getD, length-append, length-drop, List·getD-
 use lib.Seq.{take-append-le, drop-append-le, drop-append-add, getD-append-add}
 use Rattle.lists.specs.Lists.{pick, part, total}
 use Rattle.answer.specs.declared.Overflow.{Overflow}
-use Rattle.field.specs.BigEndian.{fits, readBig}
-use Rattle.field.proofs.Laws.{big-read}
+use Rattle.big_endian.specs.BigEndian.{fits, readBig}
+use Rattle.big_endian.proofs.Laws.{big-read}
 use Rattle.model.specs.Bag.{count}
 use Rattle.model.specs.Object.{Link}
 use Rattle.model.specs.Graph.{Graph, Closed, ParentsFirst, Rooted}

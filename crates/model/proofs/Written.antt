@@ -6,8 +6,8 @@ use native.Mathlib.Omega.{arith}
 use lib.ListN.{length, drop, getD}
 use Rattle.lists.specs.Lists.{total, over}
 use Rattle.lists.proofs.Overs.{over-append}
-use Rattle.field.specs.BigEndian.{bigEndian}
-use Rattle.field.proofs.Laws.{length-big}
+use Rattle.big_endian.specs.BigEndian.{bigEndian}
+use Rattle.big_endian.proofs.Laws.{length-big}
 use Rattle.model.specs.Bag.{count}
 use Rattle.model.specs.Object.{Link}
 use Rattle.model.specs.Graph.{kidsOf, Once}

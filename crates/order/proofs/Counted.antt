@@ -14,16 +14,12 @@ use Rattle.model.specs.Bag.{count, without, zerosOf, lastOnce, leads, least}
 use Rattle.model.specs.Object.{Link}
 use Rattle.model.specs.Graph.{Graph, kids, kidsOf, waits, reached, reachDown, Acyclic}
 use Rattle.model.specs.Order.{orderFrom, orderBy}
-use Rattle.model.specs.Distance.{distance, kahnOrder, distanceOrder}
 use Rattle.model.proofs.Bags.{Same, same, other, sameOr, Zero, none, some, zeroOr, one-same, one-eq, count-append, count-without, length-without, least-in}
 use Rattle.model.proofs.Waits.{waits-without}
 use Rattle.model.proofs.Reach.{reached-rooted}
 use Rattle.model.proofs.Orders.{Inv, next-free, next-inv, length-left, rooted-inv}
-use Rattle.reach.specs.Pass.{relaxed}
-use Rattle.ready.specs.Ready.{Queue, leastFrom, leastAt, removeAt, released, keyBy}
-use Rattle.placing.specs.Run.{releasedAll, placing, runOrder}
-use Rattle.order.specs.Try.{orderOf}
-use Rattle.order.proofs.Reached.{Light, counts-waits, dists-distance}
+use Rattle.order_ready.specs.Ready.{Queue, leastFrom, leastAt, removeAt, released}
+use Rattle.order_place.specs.Run.{releasedAll, placing, runOrder}
 
 -- ---- the one of least key, by its place
 
@@ -221,22 +217,11 @@ module _ (g : Graph) (y : Acyclic g) (root : ℕ) where
   unfolding orderBy
   orders-agree key also h = from-agree key also g (length (reached g root)) (reached g root) (root ∷ []) begin h
 
-  module _ (p : ℕ) (h : root < p) where
-    reached-few : length (reached g root) ≤ p
-    unfolding reached
-    reached-few = omega (arith, down-length g (suc root) (root ∷ []))
-
-    pub run-order : (key : ℕ → ℕ) → runOrder key g p root (relaxed g p root .counts) ≡ orderBy key g root
-    unfolding runOrder orderBy
-    run-order key =
-        placing-from key g p (reached g root) (relaxed g p root .counts) (root ∷ []) [] begin (counts-waits g y root p h)
-        ∙ from-fuel key g p (length (reached g root)) (reached g root) (root ∷ []) reached-few (omega arith) begin
-
-    pub order-kahn : orderOf g p root false ≡ kahnOrder g root
-    unfolding kahnOrder
-    order-kahn = run-order (λ i. 0)
-
-    pub order-distance : Light g → root < 4096 → orderOf g p root true ≡ distanceOrder g root
-    unfolding distanceOrder
-    order-distance light few =
-        run-order (keyBy true (relaxed g p root .dists)) ∙ orders-agree (keyBy true (relaxed g p root .dists)) (distance g root) (dists-distance g y root p h light few)
+  -- counters that begin as the fields of the reached objects, with fuel for as many as there may be
+  pub run-order : (key : ℕ → ℕ) (fuel : ℕ) (cs : List ℕ) → root < fuel → ((c : ℕ) → getD cs c 0 ≡ waits g (reached g root) c)
+      → runOrder key g fuel root cs ≡ orderBy key g root
+  unfolding runOrder orderBy
+  run-order key fuel cs h e =
+      placing-from key g fuel (reached g root) cs (root ∷ []) [] begin e
+      ∙ from-fuel key g fuel (length (reached g root)) (reached g root) (root ∷ [])
+      (unfold reached in omega (arith, down-length g (suc root) (root ∷ []))) (omega arith) begin

@@ -1,6 +1,5 @@
-pub mod Trying
-pub mod Reached
 pub mod Counted
+pub mod Orders
 pub mod Placed
 pub mod Looked
-pub mod Tidied
+pub mod Trying

@@ -4,24 +4,18 @@ use Prim.Native.Nat.{ℕ, _<_}
 use mathlib.Core.List.{List, [], _∷_, _++_}
 use mathlib.Core.Bool.{Bool, true, false}
 use native.Mathlib.Omega.{arith}
-use lib.ListN.{length, getD, replicate, length-replicate}
+use lib.ListN.{length, getD}
 use Rattle.lists.specs.Lists.{pick}
-use Rattle.field.specs.BigEndian.{fits}
+use Rattle.big_endian.specs.BigEndian.{fits}
 use Rattle.answer.specs.declared.Overflow.{Overflow}
 use Rattle.model.specs.Bag.{count}
 use Rattle.model.specs.Object.{Link}
-use Rattle.model.specs.Graph.{Graph, kidsOf, reached, Acyclic, Closed, Once, Rooted}
-use Rattle.model.specs.Order.{orderBy}
-use Rattle.model.specs.Distance.{kahnOrder, distanceOrder, distance}
+use Rattle.model.specs.Graph.{Graph, kidsOf, Closed, Once}
 use Rattle.model.specs.Table.{placeOf, offset, unfitLinks, unfitFrom, unfit}
 use Rattle.model.proofs.Bags.{one-same}
-use Rattle.model.proofs.Reach.{reached-rooted}
-use Rattle.model.proofs.Orders.{orderBy-once}
-use Rattle.fitting.specs.Fit.{placesFrom, orElse, offsetBy, lookLinks, look}
-use Rattle.order.specs.Try.{lookAt, lookOf}
-use Rattle.fitting.specs.declared.Look.the-variants.{Over}
-use Rattle.order.proofs.Reached.{Light, reached-inside}
-use Rattle.order.proofs.Counted.{order-kahn, order-distance}
+use Rattle.order_fit.specs.Fit.{placesFrom, orElse, offsetBy, lookLinks, look}
+use Rattle.order_fit.specs.declared.Look.the-variants.{Over}
+use Rattle.order.specs.Try.{lookOf}
 use Rattle.order.proofs.Placed.{places-placed}
 
 look-join : (a b : List Overflow) → lookOf (a ++ b) ≡ orElse (lookOf a) (lookOf b)
@@ -54,22 +48,3 @@ module _ (ps : List ℕ) (place : ℕ → ℕ) (o : List ℕ) (agree : (i : ℕ)
 
 pub look-unfit : (g : Graph) (o ps : List ℕ) → Once o → ((c : ℕ) → 0 < count c o → c < length ps) → Closed g o → look g (placesFrom g o 0 ps) o ≡ lookOf (unfit g o)
 look-unfit g o ps a b z = look-from (placesFrom g o 0 ps) (placeOf g o) o (places-placed g o ps a b) g z o (λ x h. h)
-
-module _ (g : Graph) (y : Acyclic g) (root p : ℕ) (h : root < p) where
-  look-order : (key : ℕ → ℕ) → look g (placesFrom g (orderBy key g root) 0 (replicate p 0)) (orderBy key g root) ≡ lookOf (unfit g (orderBy key g root))
-  unfolding Once Closed
-  look-order key =
-      look-unfit g (orderBy key g root) (replicate p 0) (λ c. rw (bag c) (r .once c)) (λ c k. rw length-replicate (reached-inside g y root p h c (rw (bag c) at k)))
-      (λ q c k m. rw (bag c) (r .closed q c (rw (bag q) at k) m))
-    where
-      r : Rooted g (reached g root) root
-      r = reached-rooted g root y
-
-      bag : (c : ℕ) → count c (orderBy key g root) ≡ count c (reached g root)
-      bag c = orderBy-once key g y root c
-
-  pub look-kahn : lookAt g p root false ≡ lookOf (unfit g (kahnOrder g root))
-  look-kahn = rw (order-kahn g y root p h) (unfold kahnOrder in look-order (λ i. 0))
-
-  pub look-distance : Light g → root < 4096 → lookAt g p root true ≡ lookOf (unfit g (distanceOrder g root))
-  look-distance light few = rw (order-distance g y root p h light few) (unfold distanceOrder in look-order (distance g root))

@@ -10,7 +10,7 @@ use Rattle.model.specs.Graph.{Graph, Once}
 use Rattle.model.specs.Table.{placeOf}
 use Rattle.model.proofs.Bags.{Same, same, other, sameOr, one-same, one-eq}
 use Rattle.model.proofs.Before.{before-here, before-next}
-use Rattle.fitting.specs.Fit.{placesFrom}
+use Rattle.order_fit.specs.Fit.{placesFrom}
 
 module _ (g : Graph) where
   places-other : (o : List ℕ) (at : ℕ) (ps : List ℕ) (i : ℕ) → count i o ≡ 0 → getD (placesFrom g o at ps) i 0 ≡ getD ps i 0

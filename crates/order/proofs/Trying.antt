@@ -1,60 +1,110 @@
 -- An order tried: the parts joined.
-use mathlib.Core.Path.{_≡_, _∙_}
-use Prim.Native.Nat.{ℕ, _+_, _*_}
+use mathlib.Core.Path.{_≡_, ap, _∙_}
+use Prim.Native.Nat.{ℕ, _<_}
 use mathlib.Core.List.{List}
-use mathlib.Core.Bool.{Bool}
 use native.Mathlib.Omega.{arith}
-use lib.ListN.{take, replicate}
-use Rattle.regions.specs.Region.{region, Kept, Filling}
-use Rattle.regions.proofs.Frame.{kept-then, kept-less, kept-below}
-use Rattle.graph.specs.Graph.{graphIn}
-use Rattle.placing.specs.Run.{Arranged}
-use Rattle.fitting.specs.Fit.{placesFrom, look, Placing, PlacedAt}
-use Rattle.order.specs.Try.{orderOf, Trying, Ran}
-use Rattle.fitting.specs.declared.Look.{Look}
-use Rattle.graph.proofs.Links.{tidy-kept}
+use lib.ListN.{length}
+use Rattle.regions.specs.Region.{Filling, Copying}
+use Rattle.regions.proofs.Laws.{region-length}
+use Rattle.regions.proofs.Frame.{kept-then, kept-less, kept-above}
+use Rattle.model.specs.Bag.{count}
+use Rattle.model.specs.Graph.{Graph}
+use Rattle.model.proofs.Reach.{reached-rooted}
+use Rattle.work.specs.Areas.{Apart}
+use Rattle.work.specs.Views.{orderIn, placesIn, incomingIn, keyIn}
+use Rattle.work.specs.declared.Areas.{Areas}
+use Rattle.order_graph.specs.Graph.{graphIn, graphOn}
+use Rattle.order_graph.proofs.Links.{front-kept, stands-kept}
+use Rattle.order_survey.specs.Survey.{Surveyed}
+use Rattle.order_place.specs.Run.{Starting, Ordered}
+use Rattle.order_fit.specs.Fit.{placesFrom, look, Placing, PlacedAt}
+use Rattle.order_fit.specs.declared.Look.{Look}
+use Rattle.order.specs.Try.{Keyed, orderWith, Tried}
+use Rattle.order.specs.declared.By.{By}
+use Rattle.order.specs.declared.By.the-variants as By
+use Rattle.order.proofs.Counted.{run-order}
+use Rattle.order.proofs.Orders.{with-once, with-closed, with-low, filled-order}
+use Rattle.order.proofs.Placed.{places-placed}
+use Rattle.order.proofs.Looked.{look-unfit}
 
--- the places lie behind the graph and the order
-placing-kept : (p g : ℕ) {n r : ℕ} {w w′ : List ℕ} → Placing p g n r w → Kept (g + p * 5) (g + p * 6) w w′ → Placing p g n r w′
-placing-kept p g {r = r} s k =
-    record {
-      long = omega arith;
-      tidy = tidy-kept (s .tidy) (kept-less k g (g + p * 6) (omega arith) (omega arith));
-      few = s .few;
-      ids = rw (kept-below k (g + p * 4) r (omega arith)) (s .ids);
-    }
+-- ---- the keys
 
-module _ {p g n root r : ℕ} {keyed : Bool} {w w₁ w₂ : List ℕ} (t : Trying p g n root w) (a : Arranged p g n root r keyed w w₁) (f : Filling (g + p * 5) p 0 p w₁ w₂) where
-  filled : Kept (g + p * 5) (g + p * 6) w₁ w₂
-  filled = kept-less (f .kept) (g + p * 5) (g + p * 6) (omega arith) (omega arith)
+module _ {a : Areas} {by : By} {w w′ : List ℕ} (s : Apart a) where
+  pub keys-zero : by ≡ By.Readiness → Filling (a .keys) (a .nodes) 0 (a .nodes) w w′ → Keyed a by w w′
+  keys-zero e f = rw e record { kept = kept-less (f .kept) (a .keys) (a .waiting) (omega arith) (omega arith); keys = f .done }
 
-  pub try-placing : Placing p g n r w₂
-  try-placing =
-      placing-kept p g
-      (record {
-        long = omega arith;
-        tidy = tidy-kept (t .tidy) (a .kept);
-        few = a .nodes .few;
-        ids = a .nodes .ids;
-      })
-      filled
+  pub keys-distances : by ≡ By.Distance → Copying (a .distances) (a .keys) (a .nodes) (a .nodes) w w′ → Keyed a by w w′
+  keys-distances e f = rw e record { kept = kept-less (f .kept) (a .keys) (a .waiting) (omega arith) (omega arith); keys = f .done }
 
-  module _ {w₃ : List ℕ} (s : PlacedAt p g n r w₂ w₃) where
-    pub try-look : Placing p g n r w₃
-    try-look = placing-kept p g try-placing (s .kept)
+-- ---- the order by them
 
-    pub try-all : {x : Look} → x ≡ look (graphIn p n (take g w₃)) (region (g + p * 5) p w₃) (region (g + p * 4) r w₃) → Ran p g n root keyed r x w w₃
-    try-all e =
-        let k₂ = kept-then (kept-less (a .kept) g (g + p * 6) (omega arith) (omega arith)) (kept-less filled g (g + p * 6) (omega arith) (omega arith)) in
-        let k₃ = kept-then k₂ (kept-less (s .kept) g (g + p * 6) (omega arith) (omega arith)) in
-        let o₂ : region (g + p * 4) r w₂ ≡ orderOf (graphIn p n (take g w)) p root keyed = kept-below filled (g + p * 4) r (omega arith) ∙ a .order in
-        let o₃ : region (g + p * 4) r w₃ ≡ orderOf (graphIn p n (take g w)) p root keyed = kept-below (s .kept) (g + p * 4) r (omega arith) ∙ o₂ in
-        let at : region (g + p * 5) p w₃ ≡ placesFrom (graphIn p n (take g w)) (orderOf (graphIn p n (take g w)) p root keyed) 0 (replicate p 0) =
-        s .places ∙ rw (o₂, k₂ .front, f .done) in
-        record {
-          kept = k₃;
-          nodes = record { few = a .nodes .few; ids = try-look .ids };
-          order = o₃;
-          places = at;
-          found = e ∙ rw (o₃, at, k₃ .front);
-        }
+module _ {a : Areas} {n root : ℕ} {by : By} {w w₁ : List ℕ} (t : Surveyed a n root w) (k : Keyed a by w w₁) where
+  abbrev g : Graph
+  g = graphOn a n w
+
+  incoming-same : incomingIn a w₁ ≡ incomingIn a w
+  incoming-same = kept-above (k .kept) (a .incoming) (a .nodes) (omega arith)
+
+  graph₁ : graphOn a n w₁ ≡ g
+  graph₁ = ap (graphIn a n) (front-kept (t .graph) (k .kept) (omega arith))
+
+  pub try-starting : Starting a n root w₁
+  try-starting =
+      record {
+        graph = stands-kept (t .graph) (k .kept) (omega arith);
+        inside = t .inside;
+        free = rw incoming-same (t .incoming root ∙ reached-rooted g root (t .falls) .root-free);
+      }
+
+  module _ {r : ℕ} {w₂ : List ℕ} (o : Ordered a n root r w₁ w₂) where
+    graph₂ : graphOn a n w₂ ≡ g
+    graph₂ = ap (graphIn a n) (front-kept (try-starting .graph) (o .kept) (omega arith)) ∙ graph₁
+
+    pub try-placing : Placing a n r w₂
+    try-placing = record { graph = stands-kept (try-starting .graph) (o .kept) (omega arith); nodes = o .nodes }
+
+    order₂ : orderIn a r w₂ ≡ orderWith by g root
+    order₂ =
+        o .order
+        ∙ rw (graph₁, incoming-same, run-order g (t .falls) root (keyIn a w₁) (a .nodes) (incomingIn a w) (omega arith) (t .incoming)) (filled-order t k)
+
+    -- ---- its places, and the first link that does not fit
+
+    module _ {w₃ : List ℕ} (s : PlacedAt a n r w₂ w₃) where
+      graph₃ : graphOn a n w₃ ≡ g
+      graph₃ = ap (graphIn a n) (front-kept (try-placing .graph) (s .kept) (omega arith)) ∙ graph₂
+
+      same-order : orderIn a r w₃ ≡ orderIn a r w₂
+      same-order = kept-above (s .kept) (a .order) r (omega arith)
+
+      order₃ : orderIn a r w₃ ≡ orderWith by g root
+      order₃ = same-order ∙ order₂
+
+      pub try-look : Placing a n r w₃
+      try-look =
+          record {
+            graph = stands-kept (try-placing .graph) (s .kept) (omega arith);
+            nodes = record { few = o .nodes .few; ids = rw same-order (o .nodes .ids) };
+          }
+
+      places₃ : placesIn a w₃ ≡ placesFrom g (orderWith by g root) 0 (placesIn a w₂)
+      places₃ = s .places ∙ rw (graph₂, order₂)
+
+      inside : (c : ℕ) → 0 < count c (orderWith by g root) → c < length (placesIn a w₂)
+      inside c h =
+          omega (arith, with-low by g (t .falls) root c h, region-length (a .places) (a .nodes) w₂ (omega (arith, try-placing .graph .long, try-placing .graph .apart)))
+
+      pub try-all : {x : Look} → x ≡ look (graphOn a n w₃) (placesIn a w₃) (orderIn a r w₃) → Tried a n root by r x w w₃
+      try-all e =
+          let once = with-once by g (t .falls) root in
+          let closed = with-closed by g (t .falls) root in
+          record {
+            kept =
+                kept-then (kept-less (k .kept) (a .keys) (a .incoming) (omega arith) (omega arith))
+                (kept-then (kept-less (o .kept) (a .keys) (a .incoming) (omega arith) (omega arith))
+                (kept-less (s .kept) (a .keys) (a .incoming) (omega arith) (omega arith)));
+            nodes = try-look .nodes;
+            order = order₃;
+            places = λ i h. rw places₃ (places-placed g (orderWith by g root) (placesIn a w₂) once inside i h);
+            found = e ∙ rw (graph₃, order₃, places₃, look-unfit g (orderWith by g root) (placesIn a w₂) once inside closed);
+          }

@@ -1,6 +1,6 @@
--- What the test of a graph's words tells, and that an order leaves the graph as it is.
+-- What the test of a graph's words tells, and that the graph stands where they are loaded.
 use mathlib.Core.Path.{_≡_, refl}
-use Prim.Native.Nat.{ℕ, zero, suc, _+_, _*_, _≤_, _<_}
+use Prim.Native.Nat.{ℕ, zero, suc, _+_, _-_, _*_, _^_, _≤_, _<_}
 use mathlib.Core.List.{List, _++_}
 use mathlib.Core.Bool.{Bool, true, false, _&&_}
 use native.Mathlib.Omega.{arith}
@@ -9,13 +9,19 @@ use lib.Dec.{eqb, ltb, leb}
 use borrow.Author.Tests.{ltb-true, leb-true, eqb-true, eqb-false}
 use Rattle.lists.proofs.Same.{and-left, and-right}
 use Rattle.model.specs.Object.{widthOk}
-use Rattle.regions.specs.Region.{region, Kept}
-use Rattle.regions.proofs.Laws.{region-length, region-at}
-use Rattle.regions.proofs.Bounds.{top-at}
-use Rattle.graph.specs.Graph.{linkOf, linksAt, linkCount, TidyNode, Tidy}
-use Rattle.placing.specs.Run.{OrderIds}
-use Rattle.graph.proofs.Links.{tidy-kept}
-use Rattle.orders.specs.Given.{allBelow, tidyLink, tidyNode, given, Loaded, Ready}
+use Rattle.model.specs.Words.{linkWords}
+use Rattle.model.specs.Graph.{Ranked, Acyclic}
+use Rattle.model.proofs.Distances.{kid-link}
+use Rattle.work.specs.Areas.{areasOf, workNeed, graphWords, areas-apart}
+use Rattle.work.specs.declared.Areas.{Areas}
+use Rattle.order_graph.specs.Graph.{graphIn, linkOf, linksAt, linkCount, mostNodes, mostLinks, mostSize, Tidy}
+use Rattle.order_graph.proofs.Links.{stands-kept}
+use Rattle.order_survey.proofs.Distances.{node-links}
+use Rattle.order_fit.specs.Fit.{Placing}
+use Rattle.order_fit.specs.declared.Look.{Look}
+use Rattle.order.specs.Try.{Tried}
+use Rattle.order.specs.declared.By.{By}
+use Rattle.orders.specs.Given.{space, allBelow, tidyLink, tidyNode, given, Loaded, Stood, Ready}
 
 -- what is tested of all numbers below n holds of each
 below-at : (n : ℕ) (test : ℕ → Bool) → allBelow n test ≡ true → (i : ℕ) → i < n → test i ≡ true
@@ -30,67 +36,86 @@ below-at (suc n) test e i h = go (eqb i n) refl (below-at n test (and-right (tes
 both : (a b : Bool) → (a && b) ≡ true → (a ≡ true) × (b ≡ true)
 both a b e = (and-left a b e, and-right a b e)
 
--- the test as facts
-pub record Told (p : ℕ) (f : List ℕ) : Type 0 where
+-- the test of a node as facts
+record Node (a : Areas) (f : List ℕ) (i : ℕ) : Type 0 where
+  light : getD f i 0 < mostSize
+  few : linkCount a f i ≤ mostLinks
+  within : linksAt a f i + linkCount a f i * linkWords ≤ length f
+  wide : (t : ℕ) → t < linkCount a f i → widthOk (linkOf a f i t .width) ≡ true
+  lower : (t : ℕ) → t < linkCount a f i → linkOf a f i t .child < i
+
+node-told : (a : Areas) (f : List ℕ) (i : ℕ) → tidyNode a f i ≡ true → Node a f i
+node-told a f i e =
+    let (light, e₁) = both (ltb (getD f i 0) mostSize) _ e in
+    let (few, e₂) = both (leb (linkCount a f i) mostLinks) _ e₁ in
+    let (within, links) = both (leb (linksAt a f i + linkCount a f i * linkWords) (length f)) _ e₂ in
+    let link : (t : ℕ) → t < linkCount a f i → (widthOk (linkOf a f i t .width) ≡ true) × (ltb (linkOf a f i t .child) i ≡ true) =
+    λ t h. both (widthOk (linkOf a f i t .width)) (ltb (linkOf a f i t .child) i) (below-at (linkCount a f i) (tidyLink a f i) links t h) in
+    record {
+      light = ltb-true _ _ light;
+      few = leb-true _ _ few;
+      within = leb-true _ _ within;
+      wide = λ t h. link t h .0;
+      lower = λ t h. ltb-true _ _ (link t h .1);
+    }
+
+-- the whole test as facts
+pub record Told (p k : ℕ) (f : List ℕ) : Type 0 where
   pub some : 0 < p
-  pub room : length f + p * 6 ≤ 96
-  pub tidy : Tidy p (length f) p f
+  pub size : length f ≡ graphWords p k
+  pub room : workNeed p k ≤ space
+  pub tidy : Tidy (areasOf p k) p f
+  pub falls : Acyclic (graphIn (areasOf p k) p f)
 
-node-tidy : (p : ℕ) (f : List ℕ) (i : ℕ) → tidyNode p f i ≡ true → (getD f i 0 < 4294967296) × TidyNode p (length f) f i
-node-tidy p f i e =
-    let (light, e₁) = both (ltb (getD f i 0) 4294967296) _ e in
-    let (few, e₂) = both (leb (linkCount p f i) 16384) _ e₁ in
-    let (within, links) = both (leb (linksAt p f i + linkCount p f i * 3) (length f)) _ e₂ in
-    let link : (t : ℕ) → t < linkCount p f i → (widthOk (linkOf p f i t .width) ≡ true) × (ltb (linkOf p f i t .child) i ≡ true) =
-    λ t h. both (widthOk (linkOf p f i t .width)) (ltb (linkOf p f i t .child) i) (below-at (linkCount p f i) (tidyLink p f i) links t h) in (
-      ltb-true _ _ light,
-      record {
-        few = leb-true _ _ few;
-        within = leb-true _ _ within;
-        wide = λ t h. link t h .0;
-        lower = λ t h. ltb-true _ _ (link t h .1);
-      },
-    )
-
-pub told : (p : ℕ) (f : List ℕ) → given p f ≡ true → Told p f
-told p f e =
+pub told : (p k : ℕ) (f : List ℕ) → given p k f ≡ true → Told p k f
+unfolding Ranked
+told p k f e =
+    let a = areasOf p k in
     let (some, e₁) = both (ltb 0 p) _ e in
-    let (limit, e₂) = both (leb p 4096) _ e₁ in
-    let (words, e₃) = both (leb (p * 3) (length f)) _ e₂ in
-    let (room, nodes) = both (leb (length f + p * 6) 96) _ e₃ in
-    let node : (i : ℕ) → i < p → (getD f i 0 < 4294967296) × TidyNode p (length f) f i =
-    λ i h. node-tidy p f i (below-at p (tidyNode p f) nodes i h) in
+    let (limit, e₂) = both (leb p mostNodes) _ e₁ in
+    let (size, e₃) = both (eqb (length f) (graphWords p k)) _ e₂ in
+    let (room, nodes) = both (leb (workNeed p k) space) _ e₃ in
+    let node : (i : ℕ) → i < p → Node a f i = λ i h. node-told a f i (below-at p (tidyNode a f) nodes i h) in
+    let words : length f ≡ graphWords p k = eqb-true _ _ size in
     record {
       some = ltb-true _ _ some;
+      size = words;
       room = leb-true _ _ room;
       tidy =
           record {
             nodes = omega arith;
             limit = leb-true _ _ limit;
-            room = leb-true _ _ words;
-            light = λ i h. node i h .0;
-            node = λ i h. node i h .1;
+            light = λ i h. node i h .light;
+            node =
+                λ i h.
+                let n = node i h in
+                record { few = n .few; within = omega (arith, words, n .within); wide = n .wide; known = λ t b. omega (arith, n .lower t b) };
           };
+      falls =
+          λ i c h.
+          let l = kid-link c (graphIn a p f .links i) h in
+          rw (l .2) (node-links a p f (λ m. m .child < i) i (λ b t d. node i b .lower t d) (l .0) (l .1));
     }
 
-pub given-room : (p : ℕ) (a b : List ℕ) → given p (a ++ b) ≡ true → length a + length b ≤ 96
-given-room p a b e = omega (arith, told p (a ++ b) e .room, length-append a b)
+pub given-room : (p k : ℕ) (x y : List ℕ) → given p k (x ++ y) ≡ true → length x + length y ≤ space
+given-room p k x y e = let s = told p k (x ++ y) e in omega (arith, s .room, s .size, length-append x y)
 
-pub loaded-ready : {p : ℕ} {a b w w₁ w₂ : List ℕ} → Told p (a ++ b) → 96 ≡ length w → Loaded a 0 w w₁ → Loaded b (length a) w₁ w₂ → Ready p (length a + length b) w₂
-loaded-ready {p} {a} {b} {w} {w₁} s h l m =
-    let z : 0 + length a ≡ length a = omega arith in
-    let e : take (length a) w₁ ≡ a = rw (← z) (l .front) in
-    record {
-      long = omega (arith, s .room, length-append a b, l .long, m .long);
-      tidy = rw (m .front, e, ← length-append a b) (s .tidy);
-      inside = omega (arith, s .some);
-    }
+pub given-few : (p k : ℕ) (x y : List ℕ) → given p k (x ++ y) ≡ true → (p < 2 ^ 32) × (k < 2 ^ 32)
+given-few p k x y e = let s = told p k (x ++ y) e in (omega (arith, s .room), omega (arith, s .room))
 
-pub kept-ready : {p g b : ℕ} {w w′ : List ℕ} → Ready p g w → Kept g b w w′ → Ready p g w′
-kept-ready s k = record { long = omega (arith, s .long, k .long); tidy = tidy-kept (s .tidy) k; inside = s .inside }
+pub loaded-stood : {p k : ℕ} {a : Areas} {x y w w₁ w₂ : List ℕ} → Told p k (x ++ y) → a ≡ areasOf p k → space ≡ length w → Loaded x 0 w w₁ → Loaded y (length x) w₁ w₂ → Stood a w₂
+loaded-stood {p} {k} {a} {x} {y} {w} {w₁} {w₂} s e h l m =
+    let z : 0 + length x ≡ length x = omega arith in
+    let first : take (length x) w₁ ≡ x = rw (← z) (l .front) in
+    let size : length x + length y ≡ graphWords p k = omega (arith, s .size, length-append x y) in
+    let front : take (graphWords p k) w₂ ≡ x ++ y = rw (← size) (rw first at (m .front)) in
+    rw e
+    (record {
+      graph = record { apart = areas-apart p k; long = omega (arith, s .room, l .long, m .long); tidy = rw front (s .tidy) };
+      some = s .some;
+      falls = rw front (s .falls);
+    })
 
--- a node of the order is one of the n
-pub order-id : {p g n r t : ℕ} {w : List ℕ} → g + p * 6 ≤ length w → OrderIds p g n r w → t < r → getD w (g + p * 4 + t) 0 < n
-order-id {p} {g} {n} {r} {t} {w} long s h =
-    let size : length (region (g + p * 4) r w) ≡ r = region-length (g + p * 4) r w (omega (arith, s .few)) in
-    omega (arith, s .ids, region-at (g + p * 4) r w t h, top-at (region (g + p * 4) r w) t (omega arith))
+-- an order tried leaves its nodes and places behind the graph
+pub tried-placing : {a : Areas} {by : By} {r : ℕ} {x : Look} {w w′ : List ℕ} → Ready a w → Tried a (a .nodes) (a .nodes - 1) by r x w w′ → Placing a (a .nodes) r w′
+tried-placing s t = record { graph = stands-kept (s .graph) (t .kept) (omega arith); nodes = t .nodes }

@@ -5,7 +5,7 @@ use mathlib.Core.List.{List, [], _∷_, _++_}
 use native.Mathlib.Omega.{arith}
 use native.Mathlib.Numerals.{add-one}
 use lib.ListN.{length, getD, set, drop, length-take, length-drop}
-use lib.Seq.{take-set-le, drop-set-lt, take-set-lt, drop-set-add, getD-take, getD-drop, take-suc-set}
+use lib.Seq.{take-set-le, drop-set-lt, take-set-lt, drop-set-add, getD-take, getD-drop, take-suc-set, set-getD}
 use Rattle.regions.specs.Region.{region}
 
 module _ (b n : ℕ) (w : List ℕ) where
@@ -33,3 +33,7 @@ module _ (b n : ℕ) (w : List ℕ) where
   region-push v h =
       let k : n < length (drop b w) = rw length-drop (omega arith) in
       rw (add-one, drop-set-add, take-suc-set (drop b w) n v k)
+
+  -- one word more, as it stands there
+  pub region-next : b + n < length w → region b (n + 1) w ≡ region b n w ++ (getD w (b + n) 0 ∷ [])
+  region-next h = rw (set-getD w (b + n)) at (region-push (getD w (b + n) 0) h)

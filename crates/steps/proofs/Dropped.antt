@@ -8,7 +8,7 @@ use lib.ListN.{length, getD, length-set}
 use lib.Seq.{getD-set-same, getD-set-other}
 use Rattle.lists.proofs.Frames.{length-cleared, cleared-before, cleared-in, cleared-after, zeros-in}
 use Rattle.model.specs.Session.{withOpens, outer}
-use Rattle.layout.specs.Words.{closedCount, openDepth, top, low}
+use Rattle.layout.specs.Words.{closedCountAt, openDepthAt, closedCount, openDepth, top, low}
 use Rattle.layout.specs.Decode.{decode}
 use Rattle.layout.specs.Known.{Sound}
 use Rattle.steps.specs.Steps.{under, droppedBytes, droppedWords, lessInner}
@@ -21,14 +21,14 @@ module _ {b w : List ℕ} (s : Sound b w) (h : 0 < openDepth w) where
   within : under w + (top w - under w) ≤ length b
   within = let e = inner-edges b w h s in omega arith
 
-  others : (j : ℕ) → (j ≡ 2 → ⊥) → getD (droppedWords w) j 0 ≡ getD w j 0
-  others j e = getD-set-other w 2 j (openDepth w - 1) 0 e
+  others : (j : ℕ) → (j ≡ openDepthAt → ⊥) → getD (droppedWords w) j 0 ≡ getD w j 0
+  others j e = getD-set-other w openDepthAt j (openDepth w - 1) 0 e
 
   kept : Kept (openDepth w - 1) b w (droppedBytes b w) (droppedWords w)
   kept =
       let e = inner-edges b w h s in
       kept-others s (omega arith) (omega arith) (length-cleared (under w) (top w - under w) b within) (cleared-before (under w) (top w - under w) b within)
-      (λ i k. cleared-after (under w) (top w - under w) b within i (omega arith)) (length-set w 2 (openDepth w - 1)) (λ j o. others j (o .depth))
+      (λ i k. cleared-after (under w) (top w - under w) b within i (omega arith)) (length-set w openDepthAt (openDepth w - 1)) (λ j o. others j (o .depth))
 
   -- zero where it was, and behind it
   gap : (i : ℕ) → under w ≤ i → i < low w → getD (droppedBytes b w) i 0 ≡ 0
@@ -42,7 +42,7 @@ module _ {b w : List ℕ} (s : Sound b w) (h : 0 < openDepth w) where
   unfolding decode
   drop-leaves =
       let e = inner-edges b w h s in
-      let count : closedCount (droppedWords w) ≡ closedCount w = others 1 (omega arith) in
+      let count : closedCount (droppedWords w) ≡ closedCount w = others closedCountAt (omega arith) in
       subst (λ os. Leaves b w (droppedBytes b w) (droppedWords w) (lessInner b w) (withOpens os (decode b w))) (sym (outer-decode b w))
-      (sides-leave s kept (kept-opens s kept (omega arith)) (kept-closed s kept) (getD-set-same w 2 (openDepth w - 1) 0 (omega arith)) count
+      (sides-leave s kept (kept-opens s kept (omega arith)) (kept-closed s kept) (getD-set-same w openDepthAt (openDepth w - 1) 0 (omega arith)) count
       (omega arith) (omega arith) (omega arith) (omega arith) gap (lessInner b w) (tally-same (omega arith) (omega arith) refl refl))

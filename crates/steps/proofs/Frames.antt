@@ -8,7 +8,8 @@ use lib.ListN.{length, getD}
 use Rattle.lists.specs.Lists.{part}
 use Rattle.lists.proofs.Frames.{part-same}
 use Rattle.model.specs.Object.{Object}
-use Rattle.layout.specs.Words.{objectLimit, closedCount, openDepth, endsAt, linkEndsAt, beginsAt, linkBeginsAt, linksAt, linkWords, linkLimit, limitsIn, linksOf, low, linkLow}
+use Rattle.model.specs.Judge.{mostOpen}
+use Rattle.layout.specs.Words.{objectLimitAt, openDepthAt, objectLimit, closedCount, openDepth, endsAt, linkEndsAt, beginsAt, linkBeginsAt, linksAt, linkWords, linkLimit, limitsIn, linksOf, low, linkLow}
 use Rattle.layout.specs.Decode.{linksFrom, openAt, closedAt, opensTo, closedTo}
 use Rattle.layout.specs.Known.{Head, Sound}
 use Rattle.layout.proofs.Links.{link-words}
@@ -39,12 +40,12 @@ pub record Kept (d : ℕ) (b w b' w' : List ℕ) : Type 0 where
 
 -- what a step on the object behind the first d open ones may write: the depth, one entry of each table of ends, links in front of the closed ones; word j is another
 pub record Other (d : ℕ) (w : List ℕ) (j : ℕ) : Type 0 where
-  pub depth : j ≡ 2 → ⊥
+  pub depth : j ≡ openDepthAt → ⊥
   pub end : j ≡ endsAt + d + 1 → ⊥
   pub linkEnd : j ≡ linkEndsAt + d + 1 → ⊥
   pub link : linksAt w + getD w (linkEndsAt + d) 0 * linkWords ≤ j → linksAt w + linkLow w * linkWords ≤ j
 
-module _ {d : ℕ} {b w b' w' : List ℕ} (s : Sound b w) (known : d ≤ openDepth w) (room : d < 64) where
+module _ {d : ℕ} {b w b' w' : List ℕ} (s : Sound b w) (known : d ≤ openDepth w) (room : d < mostOpen) where
   pub kept-others : length b' ≡ length b → ((i : ℕ) → i < getD w (endsAt + d) 0 → getD b' i 0 ≡ getD b i 0) → ((i : ℕ) → low w ≤ i → getD b' i 0 ≡ getD b i 0)
       → length w' ≡ length w → ((j : ℕ) → Other d w j → getD w' j 0 ≡ getD w j 0) → Kept d b w b' w'
   kept-others bytes front back words others =
@@ -53,7 +54,7 @@ module _ {d : ℕ} {b w b' w' : List ℕ} (s : Sound b w) (known : d ≤ openDep
         known = known;
         bytes = bytes;
         words = words;
-        objects = others 0 (omega arith);
+        objects = others objectLimitAt (omega arith);
         ends = record { at = λ i h. others (endsAt + i) (omega arith) };
         linkEnds = record { at = λ i h. others (linkEndsAt + i) (omega arith) };
         begins = record { at = λ i h. others (beginsAt + i) (omega arith) };
@@ -91,7 +92,7 @@ module _ {d : ℕ} {b w b' w' : List ℕ} (s : Sound b w) (k : Kept d b w b' w')
   pub limits-kept : limitsIn w' ≡ limitsIn w
   limits-kept = λ i. record { objects = k .objects i; links = linkLimit-kept i; bytes = k .begins .at 0 (omega arith) i }
 
-  pub head-kept : openDepth w' ≤ 64 → closedCount w' ≤ objectLimit w → Head (length b') w'
+  pub head-kept : openDepth w' ≤ mostOpen → closedCount w' ≤ objectLimit w → Head (length b') w'
   head-kept m n =
       let l = linkLimit-kept in
       record {

@@ -3,14 +3,11 @@ use mathlib.Core.Path.{_≡_}
 use Prim.Native.Nat.{ℕ, _+_, _-_, _^_, _≤_, _<_}
 use mathlib.Core.List.{List}
 use native.Mathlib.Omega.{arith}
-use lib.ListN.{length, getD}
+use lib.ListN.{length}
 use Rattle.answer.specs.declared.tally.Tally.{Tally}
 use Rattle.layout.specs.declared.state.State.{State}
-use Rattle.layout.specs.Words.{openDepth, endsAt, linkEndsAt}
 use Rattle.layout.specs.Known.{Read}
-use Rattle.layout.proofs.Entries.{Rising}
-use Rattle.layout.proofs.Facts.{sound-tables, sound-known}
-use Rattle.steps.specs.Steps.{tallyIn, tallyBy, under, linkUnder}
+use Rattle.steps.specs.Steps.{tallyIn, tallyBy}
 
 pub record Held (b w : List ℕ) (s : State) (t : Tally) : Type 0 where
   pub counts : Read b w s
@@ -45,27 +42,5 @@ module _ {b w : List ℕ} {s : State} {t : Tally} (h : Held b w s t) where
   link-apart k = omega arith
 
   -- one closed object more
-  pub one-more : s .closed < s .objects → 0 < s .depth → (t .objects < 4096) × (0 < t .depth)
+  pub one-more : s .closed < s .objects → 0 < s .depth → (t .objects + 1 < 2 ^ 64) × (0 < t .depth)
   one-more k some = (omega arith, omega arith)
-
--- ---- the innermost open object: a number read below the last entry of a table of ends
-
-rising-last : (base n : ℕ) (w : List ℕ) → Rising base n w → 0 < n → getD w (base + (n - 1)) 0 ≤ getD w (base + n) 0
-rising-last base n w r h =
-    let e : base + (n - 1) + 1 ≡ base + n = omega arith in
-    rw e at (r .next (n - 1) (omega arith))
-
-pub record Below (x begin end : ℕ) : Type 0 where
-  pub is : x ≡ begin
-  pub order : x ≤ end
-
-module _ {b w : List ℕ} {s : State} {x : ℕ} (r : Read b w s) (some : 0 < s .depth) where
-  pub inner-from : x ≡ getD w (endsAt + (s .depth - 1)) 0 → Below x (under w) (s .top)
-  inner-from e =
-      let is : x ≡ under w = rw (r .depthIs) at e in
-      record { is = is; order = rw (is, r .topIs) (rising-last endsAt (openDepth w) w (sound-tables (sound-known r) .ends) (omega arith)) }
-
-  pub inner-first : x ≡ getD w (linkEndsAt + (s .depth - 1)) 0 → Below x (linkUnder w) (s .«link_top»)
-  inner-first e =
-      let is : x ≡ linkUnder w = rw (r .depthIs) at e in
-      record { is = is; order = rw (is, r .linkTopIs) (rising-last linkEndsAt (openDepth w) w (sound-tables (sound-known r) .linkEnds) (omega arith)) }

@@ -11,7 +11,8 @@ use Rattle.lists.proofs.Frames.{zeros-in}
 use Rattle.answer.specs.Tally.{opened}
 use Rattle.model.specs.Object.{noObject}
 use Rattle.model.specs.Session.{withOpens}
-use Rattle.layout.specs.Words.{closedCount, openDepth, endsAt, linkEndsAt, linksOf, top, linkTop, low}
+use Rattle.model.specs.Judge.{mostOpen}
+use Rattle.layout.specs.Words.{closedCountAt, openDepthAt, closedCount, openDepth, endsAt, linkEndsAt, linksOf, top, linkTop, low}
 use Rattle.layout.specs.Decode.{linksFrom, decode}
 use Rattle.layout.specs.Known.{Sound}
 use Rattle.steps.specs.Steps.{tallyIn}
@@ -27,9 +28,9 @@ links-none : (w : List ℕ) (a : ℕ) → linksFrom w a a ≡ []
 unfolding linksOf
 links-none w a = rw part-none
 
-module _ {b w : List ℕ} (s : Sound b w) (h : openDepth w < 64) where
+module _ {b w : List ℕ} (s : Sound b w) (h : openDepth w < mostOpen) where
   abbrev words : List ℕ
-  words = set (set (set w (endsAt + openDepth w + 1) (top w)) (linkEndsAt + openDepth w + 1) (linkTop w)) 2 (openDepth w + 1)
+  words = set (set (set w (endsAt + openDepth w + 1) (top w)) (linkEndsAt + openDepth w + 1) (linkTop w)) openDepthAt (openDepth w + 1)
 
   others : (j : ℕ) → Other (openDepth w) w j → getD words j 0 ≡ getD w j 0
   others j o = simp (getD-set-other, o .depth, o .end, o .linkEnd)
@@ -38,22 +39,22 @@ module _ {b w : List ℕ} (s : Sound b w) (h : openDepth w < 64) where
   kept = kept-others s (le-refl _) h refl (λ i k. refl) (λ i k. refl) (simp length-set) others
 
   depth : openDepth words ≡ suc (openDepth w)
-  depth = let r : 2 < length w = omega arith in simp (getD-set-same, lt-length-set) (omega arith)
+  depth = let r : openDepthAt < length w = omega arith in simp (getD-set-same, lt-length-set) (omega arith)
 
   count : closedCount words ≡ closedCount w
-  count = others 1 (omega arith)
+  count = others closedCountAt (omega arith)
 
   end : getD words (endsAt + openDepth w + 1) 0 ≡ top w
   end =
       let r : endsAt + openDepth w + 1 < length w = omega arith in
-      let x : endsAt + openDepth w + 1 ≡ 2 → ⊥ = omega arith in
+      let x : endsAt + openDepth w + 1 ≡ openDepthAt → ⊥ = omega arith in
       let y : endsAt + openDepth w + 1 ≡ linkEndsAt + openDepth w + 1 → ⊥ = omega arith in
       simp (getD-set-other, getD-set-same)
 
   linkEnd : getD words (linkEndsAt + openDepth w + 1) 0 ≡ linkTop w
   linkEnd =
       let r : linkEndsAt + openDepth w + 1 < length w = omega arith in
-      let x : linkEndsAt + openDepth w + 1 ≡ 2 → ⊥ = omega arith in
+      let x : linkEndsAt + openDepth w + 1 ≡ openDepthAt → ⊥ = omega arith in
       simp (getD-set-other, getD-set-same, lt-length-set)
 
   pub open-leaves : Leaves b w b words (opened (tallyIn b w)) (withOpens (noObject ∷ decode b w .opens) (decode b w))

@@ -21,12 +21,12 @@ use Rattle.model.specs.Judge.{Test, refused, verdict, outputShort, overflows}
 use Rattle.model.specs.Session.{tableIn}
 use Rattle.model.proofs.Refusals.{Comes, this, next, verdict-is}
 use Rattle.layout.specs.Words.{objectLimit, linkLimit, closedCount, openDepth}
-use Rattle.layout.specs.Need.{workNeed}
+use Rattle.work.specs.Areas.{workNeed}
 use Rattle.layout.specs.Decode.{decode}
 use Rattle.layout.specs.Sound.{sound}
 use Rattle.layout.specs.declared.state.State.{State}
 use Rattle.steps.specs.Steps.{tallyIn}
-use Rattle.steps.specs.Pack.{PackOut, packed, cleared, clears, settle, packBy, packStep}
+use Rattle.steps.specs.Pack.{PackOut, packed, cleared, clears, settlePackStep, packBy, packStep}
 use Rattle.steps.proofs.Held.{Held}
 
 -- ---- the two tests left once the others passed, on a table of n bytes
@@ -50,13 +50,13 @@ module _ (b w : List ℕ) (n : ℕ) (out m : List ℕ) where
 
 -- ---- the tests before
 
-settle-refused : {ts : List Test} {why : Refusal} {t : Tally} (b w out m : List ℕ) (done : PackOut) → Comes ts (refused why) → t ≡ beside why (tallyIn b w) → clears why ≡ false
-    → packed (Refused why t) out m ≡ settle (verdict ts) b w out m done
-settle-refused b w out m done c e k = rw (verdict-is c, e, k)
+refused-packs : {ts : List Test} {why : Refusal} {t : Tally} (b w out m : List ℕ) (done : PackOut) → Comes ts (refused why) → t ≡ beside why (tallyIn b w) → clears why ≡ false
+    → packed (Refused why t) out m ≡ settlePackStep (verdict ts) b w out m done
+refused-packs b w out m done c e k = rw (verdict-is c, e, k)
 
 pub pack-unsound : {t : Tally} (b w : List ℕ) (id : ℕ) (out m : List ℕ) → t ≡ noTally → sound b w ≡ false → packed (Refused Refusal.Unsound t) out m ≡ packStep id b w out m
 unfolding packStep
-pack-unsound b w id out m e h = settle-refused b w out m _ (this (rw h)) e refl
+pack-unsound b w id out m e h = refused-packs b w out m _ (this (rw h)) e refl
 
 module _ {b w : List ℕ} {s : State} {t : Tally} (h : Held b w s t) (id : ℕ) (out m : List ℕ) where
   abbrev need : ℕ
@@ -67,7 +67,7 @@ module _ {b w : List ℕ} {s : State} {t : Tally} (h : Held b w s t) (id : ℕ) 
 
   pub pack-little : {z : Tally} → z ≡ noTally → length m < need → packed (Refused Refusal.OutOfRange z) out m ≡ packStep id b w out m
   unfolding packStep
-  pack-little e k = settle-refused b w out m _ (next isSound (this (lt-ltb (length m) _ (omega arith)))) e refl
+  pack-little e k = refused-packs b w out m _ (next isSound (this (lt-ltb (length m) _ (omega arith)))) e refl
 
   module _ (long : need ≤ length m) where
     enough : ltb (length m) (workNeed (objectLimit w) (linkLimit w)) ≡ false
@@ -75,7 +75,7 @@ module _ {b w : List ℕ} {s : State} {t : Tally} (h : Held b w s t) (id : ℕ) 
 
     pub pack-open : 0 < t .depth → packed (Refused Refusal.ObjectOpen t) out m ≡ packStep id b w out m
     unfolding packStep
-    pack-open k = settle-refused b w out m _ (next isSound (next enough (this (rw (ne-eqb (openDepth w) 0 (λ e. omega arith)))))) (h .tallyIs) refl
+    pack-open k = refused-packs b w out m _ (next isSound (next enough (this (rw (ne-eqb (openDepth w) 0 (λ e. omega arith)))))) (h .tallyIs) refl
 
     module _ (none : t .depth ≤ 0) where
       idle : not (eqb (openDepth w) 0) ≡ false
@@ -83,7 +83,7 @@ module _ {b w : List ℕ} {s : State} {t : Tally} (h : Held b w s t) (id : ℕ) 
 
       pub pack-unknown : t .objects ≤ id → packed (Refused Refusal.NotClosed t) out m ≡ packStep id b w out m
       unfolding packStep
-      pack-unknown k = settle-refused b w out m _ (next isSound (next enough (next idle (this (le-leb (closedCount w) id (omega arith)))))) (h .tallyIs) refl
+      pack-unknown k = refused-packs b w out m _ (next isSound (next enough (next idle (this (le-leb (closedCount w) id (omega arith)))))) (h .tallyIs) refl
 
       -- the other tests passed
       pub pack-left : id < t .objects

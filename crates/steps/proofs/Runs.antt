@@ -4,13 +4,13 @@ use mathlib.Core.List.{List}
 use mathlib.Core.Bool.{true}
 use native.Mathlib.Omega.{arith}
 use Rattle.model.specs.Judge.{Test, refused, verdict, Verdict, accepted}
-use Rattle.model.specs.Session.{Needs, Session, SessionCall, startCall, openCall, putCall, linkCall, closeCall, dropCall, tallyCall, Left, settle, step}
+use Rattle.model.specs.Session.{Needs, Session, SessionCall, startCall, openCall, putCall, linkCall, closeCall, dropCall, tallyCall, Left, settleCall, step}
 use Rattle.model.proofs.Fair.{fair, fair-verdict}
 
-fair-told : (ts : List Test) → fair ts ≡ true → (a : Session) (l : Left) → l .told .number ≡ 0 → settle (verdict ts) a l .told .number ≡ 12 → ⊥
+fair-told : (ts : List Test) → fair ts ≡ true → (a : Session) (l : Left) → l .told .number ≡ 0 → settleCall (verdict ts) a l .told .number ≡ 12 → ⊥
 fair-told ts h a l z = go (verdict ts) refl
   where
-    go : (v : Verdict) → verdict ts ≡ v → settle v a l .told .number ≡ 12 → ⊥
+    go : (v : Verdict) → verdict ts ≡ v → settleCall v a l .told .number ≡ 12 → ⊥
     go accepted q e = omega arith
     go (refused why) q e = fair-verdict ts h why q e
 

@@ -11,7 +11,7 @@ use Rattle.lists.proofs.Frames.{part-same, length-moved, moved-before, moved-af
 use Rattle.answer.specs.Tally.{added}
 use Rattle.model.specs.Object.{Object}
 use Rattle.model.specs.Session.{Session, innermost, outer}
-use Rattle.layout.specs.Words.{objectLimit, closedCount, openDepth, endsAt, linkEndsAt, beginsAt, linkBeginsAt, linksAt, linkWords, linksOf, top, linkTop, low, linkLow}
+use Rattle.layout.specs.Words.{objectLimitAt, closedCountAt, openDepthAt, objectLimit, closedCount, openDepth, endsAt, linkEndsAt, beginsAt, linkBeginsAt, linksAt, linkWords, linksOf, top, linkTop, low, linkLow}
 use Rattle.layout.specs.Decode.{linksFrom, decode}
 use Rattle.layout.specs.Known.{Sound}
 use Rattle.layout.proofs.Links.{link-words}
@@ -23,8 +23,8 @@ use Rattle.steps.proofs.Sides.{Leaves, kept-opens, kept-closed, more-cl
 
 -- word j is none that the step writes
 record Untouched (w : List ℕ) (j : ℕ) : Type 0 where
-  count : j ≡ 1 → ⊥
-  depth : j ≡ 2 → ⊥
+  count : j ≡ closedCountAt → ⊥
+  depth : j ≡ openDepthAt → ⊥
   begin : j ≡ beginsAt + closedCount w + 1 → ⊥
   linkBegin : j ≡ linkBeginsAt w + closedCount w + 1 → ⊥
   link : linksAt w + newLinkLow w * linkWords ≤ j → linksAt w + linkLow w * linkWords ≤ j
@@ -89,7 +89,7 @@ module _ {b w : List ℕ} (s : Sound b w) (h : 0 < openDepth w) (some : under w 
   words-kept : length (sealedWords w) ≡ length w
   words-kept = simp length-set length-words-up
 
-  sets : (j : ℕ) → (j ≡ 1 → ⊥) → (j ≡ 2 → ⊥) → (j ≡ beginsAt + closedCount w + 1 → ⊥) → (j ≡ linkBeginsAt w + closedCount w + 1 → ⊥)
+  sets : (j : ℕ) → (j ≡ closedCountAt → ⊥) → (j ≡ openDepthAt → ⊥) → (j ≡ beginsAt + closedCount w + 1 → ⊥) → (j ≡ linkBeginsAt w + closedCount w + 1 → ⊥)
       → getD (sealedWords w) j 0 ≡ getD movedWords j 0
   sets j e f g k = simp (getD-set-other, e, f, g, k)
 
@@ -104,8 +104,8 @@ module _ {b w : List ℕ} (s : Sound b w) (h : 0 < openDepth w) (some : under w 
   begin =
       let n = length-words-up in
       let r : beginsAt + closedCount w + 1 < length movedWords = omega arith in
-      let x : beginsAt + closedCount w + 1 ≡ 1 → ⊥ = omega arith in
-      let y : beginsAt + closedCount w + 1 ≡ 2 → ⊥ = omega arith in
+      let x : beginsAt + closedCount w + 1 ≡ closedCountAt → ⊥ = omega arith in
+      let y : beginsAt + closedCount w + 1 ≡ openDepthAt → ⊥ = omega arith in
       let z : beginsAt + closedCount w + 1 ≡ linkBeginsAt w + closedCount w + 1 → ⊥ = omega arith in
       simp (getD-set-other, getD-set-same)
 
@@ -113,21 +113,21 @@ module _ {b w : List ℕ} (s : Sound b w) (h : 0 < openDepth w) (some : under w 
   linkBegin =
       let n = length-words-up in
       let r : linkBeginsAt w + closedCount w + 1 < length movedWords = omega arith in
-      let x : linkBeginsAt w + closedCount w + 1 ≡ 1 → ⊥ = omega arith in
-      let y : linkBeginsAt w + closedCount w + 1 ≡ 2 → ⊥ = omega arith in
+      let x : linkBeginsAt w + closedCount w + 1 ≡ closedCountAt → ⊥ = omega arith in
+      let y : linkBeginsAt w + closedCount w + 1 ≡ openDepthAt → ⊥ = omega arith in
       simp (getD-set-other, getD-set-same, lt-length-set)
 
   count : closedCount (sealedWords w) ≡ suc (closedCount w)
   count =
       let n = length-words-up in
-      let r : 1 < length movedWords = omega arith in
-      let x : _≡_ {A = ℕ} 1 2 → ⊥ = omega arith in
+      let r : closedCountAt < length movedWords = omega arith in
+      let x : _≡_ {A = ℕ} closedCountAt openDepthAt → ⊥ = omega arith in
       simp (getD-set-other, getD-set-same, lt-length-set) (omega arith)
 
   depth : openDepth (sealedWords w) ≡ openDepth w - 1
   depth =
       let n = length-words-up in
-      let r : 2 < length movedWords = omega arith in
+      let r : openDepthAt < length movedWords = omega arith in
       simp (getD-set-same, lt-length-set)
 
   -- ---- both
@@ -140,7 +140,7 @@ module _ {b w : List ℕ} (s : Sound b w) (h : 0 < openDepth w) (some : under w 
         known = omega arith;
         bytes = bytes-kept;
         words = words-kept;
-        objects = others 0 (omega arith);
+        objects = others objectLimitAt (omega arith);
         ends = record { at = λ i k. others (endsAt + i) (omega arith) };
         linkEnds = record { at = λ i k. others (linkEndsAt + i) (omega arith) };
         begins = record { at = λ i k. others (beginsAt + i) (omega arith) };

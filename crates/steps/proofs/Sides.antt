@@ -10,7 +10,7 @@ use Rattle.lists.specs.Lists.{part}
 use Rattle.lists.proofs.Frames.{zeros-of}
 use Rattle.answer.specs.declared.tally.Tally.{Tally}
 use Rattle.model.specs.Object.{Object}
-use Rattle.model.specs.Judge.{Limits}
+use Rattle.model.specs.Judge.{mostOpen, Limits}
 use Rattle.model.specs.Session.{Session, tallyOf}
 use Rattle.layout.specs.Words.{objectLimit, closedCount, openDepth, endsAt, linkEndsAt, beginsAt, linkBeginsAt, storeLength, linkLimit, limitsIn, top, linkTop, low, linkLow}
 use Rattle.layout.specs.Fields.{objectOk}
@@ -212,7 +212,7 @@ pub record Leaves (b w b' w' : List ℕ) (t : Tally) (a : Session) : Type 0 wher
   pub sameWords : length w' ≡ length w
 
 module _ {d n t l m u v : ℕ} {os cs : List Object} {b w b' w' : List ℕ} (s : Sound b w) (k : Kept d b w b' w') (o : Opens n t l os b' w') (c : Closed m u v cs b' w') where
-  pub sides-leave : openDepth w' ≡ n → closedCount w' ≡ m → n ≤ 64 → m ≤ objectLimit w → t ≤ u → l ≤ v → ((i : ℕ) → t ≤ i → i < u → getD b' i 0 ≡ 0)
+  pub sides-leave : openDepth w' ≡ n → closedCount w' ≡ m → n ≤ mostOpen → m ≤ objectLimit w → t ≤ u → l ≤ v → ((i : ℕ) → t ≤ i → i < u → getD b' i 0 ≡ 0)
       → (y : Tally) → y ≡ record { bytes = t + (length b - u); links = l + (linkLimit w - v); objects = m; depth = n }
       → Leaves b w b' w' y (record { limits = limitsIn w; opens = os; closed = cs })
   sides-leave e f g h apart linkApart gap y z =

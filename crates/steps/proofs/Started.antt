@@ -11,10 +11,10 @@ use Rattle.lists.proofs.Holds.{holds-at}
 use Rattle.lists.proofs.Same.{and-left, and-right}
 use Rattle.lists.proofs.Frames.{length-cleared, cleared-in}
 use Rattle.answer.specs.Number.{noTally}
-use Rattle.model.specs.Judge.{Limits, accepted, inRange, judgeStart}
+use Rattle.model.specs.Judge.{mostObjects, mostLinks, mostBytes, Limits, accepted, inRange, judgeStart}
 use Rattle.model.specs.Session.{started}
 use Rattle.model.proofs.Verdicts.{passes}
-use Rattle.layout.specs.Words.{objectLimit, closedCount, openDepth, endsAt, linkEndsAt, beginsAt, need, storeLength, linkLimit}
+use Rattle.layout.specs.Words.{objectLimitAt, closedCountAt, openDepthAt, linkBeginsBase, objectLimit, closedCount, openDepth, endsAt, linkEndsAt, beginsAt, need, storeLength, linkLimit}
 use Rattle.layout.specs.Known.{Head}
 use Rattle.steps.specs.Steps.{startWords}
 use Rattle.steps.specs.Runs.{Drawn}
@@ -23,10 +23,10 @@ use Rattle.steps.proofs.Sides.{Leaves, no-opens, no-closed, sides-drawn
 -- what the ranges say
 pub record Startable (m : Limits) (w : List ℕ) : Type 0 where
   pub some : 1 ≤ m .objects
-  pub few : m .objects ≤ 4096
-  pub fewLinks : m .links ≤ 16384
+  pub few : m .objects ≤ mostObjects
+  pub fewLinks : m .links ≤ mostLinks
   pub full : 1 ≤ m .bytes
-  pub most : m .bytes ≤ 1048576
+  pub most : m .bytes ≤ mostBytes
   pub room : need (m .objects) (m .links) ≤ length w
 
 pub startable : (m : Limits) (w : List ℕ) → judgeStart m (need (m .objects) (m .links)) (length w) ≡ accepted → Startable m w
@@ -53,30 +53,30 @@ module _ (m : Limits) (w : List ℕ) (s : Startable m w) where
   words = simp length-set cleared-length
 
   -- a word that is no limit
-  zero-word : (j : ℕ) → j < 134 → (j ≡ 0 → ⊥) → (j ≡ beginsAt → ⊥) → getD (startWords m w) j 0 ≡ 0
+  zero-word : (j : ℕ) → j < linkBeginsBase → (j ≡ objectLimitAt → ⊥) → (j ≡ beginsAt → ⊥) → getD (startWords m w) j 0 ≡ 0
   zero-word j h e f =
-      let g : j ≡ 134 + m .objects → ⊥ = omega arith in
+      let g : j ≡ linkBeginsBase + m .objects → ⊥ = omega arith in
       simp (getD-set-other, e, f, g) (cleared-in 0 (need (m .objects) (m .links)) w (omega arith) j (omega arith) (omega arith))
 
   objects-is : objectLimit (startWords m w) ≡ m .objects
   objects-is =
       let n = cleared-length in
-      let r : 0 < length cleared = omega arith in
-      let e : _≡_ {A = ℕ} 0 beginsAt → ⊥ = omega arith in
-      let f : 0 ≡ 134 + m .objects → ⊥ = omega arith in
+      let r : objectLimitAt < length cleared = omega arith in
+      let e : _≡_ {A = ℕ} objectLimitAt beginsAt → ⊥ = omega arith in
+      let f : objectLimitAt ≡ linkBeginsBase + m .objects → ⊥ = omega arith in
       simp (getD-set-other, getD-set-same)
 
   bytes-is : storeLength (startWords m w) ≡ m .bytes
   bytes-is =
       let n = cleared-length in
       let r : beginsAt < length cleared = omega arith in
-      let f : beginsAt ≡ 134 + m .objects → ⊥ = omega arith in
+      let f : beginsAt ≡ linkBeginsBase + m .objects → ⊥ = omega arith in
       simp (getD-set-other, getD-set-same, lt-length-set)
 
   links-is : linkLimit (startWords m w) ≡ m .links
   links-is =
       let n = cleared-length in
-      let r : 134 + m .objects < length cleared = omega arith in
+      let r : linkBeginsBase + m .objects < length cleared = omega arith in
       rw objects-is (simp (getD-set-same, lt-length-set))
 
   pub start-leaves : (b : List ℕ) → m .bytes ≡ length b → Leaves b w (replicate (length b) 0) (startWords m w) noTally (started m)
@@ -89,8 +89,8 @@ module _ (m : Limits) (w : List ℕ) (s : Startable m w) where
       let p = objects-is in
       let q = links-is in
       let r = bytes-is in
-      let count : closedCount w' ≡ 0 = zero-word 1 (omega arith) (omega arith) (omega arith) in
-      let depth : openDepth w' ≡ 0 = zero-word 2 (omega arith) (omega arith) (omega arith) in
+      let count : closedCount w' ≡ 0 = zero-word closedCountAt (omega arith) (omega arith) (omega arith) in
+      let depth : openDepth w' ≡ 0 = zero-word openDepthAt (omega arith) (omega arith) (omega arith) in
       let base = zero-word endsAt (omega arith) (omega arith) (omega arith) in
       let linkBase = zero-word linkEndsAt (omega arith) (omega arith) (omega arith) in
       let head : Head (length b') w' =

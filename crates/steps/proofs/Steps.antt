@@ -15,17 +15,17 @@ use Rattle.answer.specs.declared.Refusal.{Refusal}
 use Rattle.answer.specs.declared.Refusal.the-variants as Refusal
 use Rattle.answer.specs.declared.Answer.the-variants.{Done}
 use Rattle.model.specs.Object.{sizeOf, widthOk}
-use Rattle.model.specs.Judge.{Limits, Verdict, accepted, refused, verdict, judgeStart, judgeOpen, judgePut, judgeLink, judgeClose, judgeDrop, judgeTally}
+use Rattle.model.specs.Judge.{mostOpen, Limits, Verdict, accepted, refused, verdict, judgeStart, judgeOpen, judgePut, judgeLink, judgeClose, judgeDrop, judgeTally}
 use Rattle.model.specs.Told.{doneClose, refusal, refusedTold}
 use Rattle.model.specs.Session.{Session, tallyOf, started, innermost, outer, twin, leaves, step}
-use Rattle.model.specs.Session.{Left as AbstractLeft, settle as abstractSettle}
+use Rattle.model.specs.Session.{Left as AbstractLeft, settleCall}
 use Rattle.model.proofs.Verdicts.{passes, refused-number}
 use Rattle.layout.specs.Words.{objectLimit, closedCount, openDepth, need, limitsIn, top, linkTop, low, linkLow}
 use Rattle.layout.specs.Decode.{decode}
 use Rattle.layout.specs.Sound.{sound}
 use Rattle.layout.specs.Known.{Sound}
 use Rattle.layout.proofs.Facts.{sound-facts}
-use Rattle.steps.specs.Steps.{Out, outcome, tallyIn, settle, limitsOf, startWords, startStep, openStep, putStep, linkStep, closeStep, dropStep, tallyStep, under, closeTwin, closeNew, settleClose, twinIn}
+use Rattle.steps.specs.Steps.{Out, outcome, tallyIn, settleStep, limitsOf, startWords, startStep, openStep, putStep, linkStep, closeStep, dropStep, tallyStep, under, closeTwin, closeNew, settleClose, twinIn}
 use Rattle.steps.specs.Runs.{StoreCall, start, open', put, link, close, drop, tally, Stores, Left, leftBy, leftByClose, stepOn, asCall, needsWith, Drawn}
 use Rattle.steps.proofs.Tallies.{tally-decode, count-decode, limits-decode}
 use Rattle.steps.proofs.Innermost.{twin-most, size-decode, twin-decode}
@@ -75,8 +75,8 @@ module _ (b w : List ℕ) (h : sound b w ≡ true) where
       go accepted k = k refl
       go (refused why) k = r why
 
-  settled : (v u : Verdict) (out : Out) (m : AbstractLeft) → v ≡ u → (v ≡ accepted → Follows s (leftBy out) m) → Follows s (leftBy (settle v b w out)) (abstractSettle u a m)
-  settled v u out m e k = judged-alike (λ x. leftBy (settle x b w out)) (λ x. abstractSettle x a m) v u e k refused-follows
+  settled : (v u : Verdict) (out : Out) (m : AbstractLeft) → v ≡ u → (v ≡ accepted → Follows s (leftBy out) m) → Follows s (leftBy (settleStep v b w out)) (settleCall u a m)
+  settled v u out m e k = judged-alike (λ x. leftBy (settleStep x b w out)) (λ x. settleCall x a m) v u e k refused-follows
 
   -- ---- what the tests of an accepted call say
 
@@ -152,7 +152,7 @@ module _ (b w : List ℕ) (h : sound b w ≡ true) where
       (λ e. leaves-follow 0 (start-leaves m w (startable m w e) b refl))
   step-follows work open' =
       settled (judgeOpen (sound b w) (tallyIn b w)) (judgeOpen true (tallyOf a)) _ _ (λ i. judgeOpen (h i) (counts i))
-      (λ e. leaves-follow 0 (open-leaves known (leb-false 64 (openDepth w) (passes _ e 1))))
+      (λ e. leaves-follow 0 (open-leaves known (leb-false mostOpen (openDepth w) (passes _ e 1))))
   step-follows work (put vs) =
       settled (judgePut (sound b w) (limitsIn w) (tallyIn b w) (length vs)) (judgePut true (a .limits) (tallyOf a) (length vs)) _ _
       (λ i. judgePut (h i) (limits i) (counts i) (length vs))
@@ -164,7 +164,7 @@ module _ (b w : List ℕ) (h : sound b w ≡ true) where
       (link-leaves width id known (some-open (eqb-false _ _ (passes _ e 1))) (room width (ltb-false _ _ (passes _ e 5))) (link-room (leb-false _ _ (passes _ e 4)))
       (not-false (widthOk width) (passes _ e 2)) (leb-false _ _ (passes _ e 3))))
   step-follows work close =
-      judged-alike (λ x. leftByClose (settleClose x b w (pick (ltb (twinIn b w) (closedCount w)) (closeTwin b w) (closeNew b w)))) (λ x. abstractSettle x a (closing (twin a) (ltb (twin a) (length (a .closed)))))
+      judged-alike (λ x. leftByClose (settleClose x b w (pick (ltb (twinIn b w) (closedCount w)) (closeTwin b w) (closeNew b w)))) (λ x. settleCall x a (closing (twin a) (ltb (twin a) (length (a .closed)))))
       _ _ judged-close close-accepted refused-follows
   step-follows work drop =
       settled (judgeDrop (sound b w) (tallyIn b w)) (judgeDrop true (tallyOf a)) _ _ (λ i. judgeDrop (h i) (counts i))
@@ -188,7 +188,7 @@ start-drawn objects links s e = go (judgeStart m (need objects links) (length (s
     m = limitsOf objects links (s .bytes)
 
     left : Verdict → Left
-    left v = leftBy (settle v (s .bytes) (s .words) (outcome (Done noTally) (replicate (length (s .bytes)) 0) (startWords m (s .words))))
+    left v = leftBy (settleStep v (s .bytes) (s .words) (outcome (Done noTally) (replicate (length (s .bytes)) 0) (startWords m (s .words))))
 
     go : (v : Verdict) → judgeStart m (need objects links) (length (s .words)) ≡ v → left v .told .number ≡ 0 → Follows s (left v) (leaves (started m))
     go accepted f z = leaves-follow 0 (start-leaves m (s .words) (startable m (s .words) f) (s .bytes) refl)

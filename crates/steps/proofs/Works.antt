@@ -1,6 +1,6 @@
 -- Each way through a call's code, as the call's definition has it.
 use mathlib.Core.Path.{_≡_}
-use Prim.Native.Nat.{ℕ, suc, _+_, _-_, _*_, _≤_, _<_}
+use Prim.Native.Nat.{ℕ, suc, _+_, _-_, _*_, _^_, _≤_, _<_}
 use mathlib.Core.List.{List, [], _∷_, append-assoc}
 use mathlib.Core.Bool.{Bool, true, false, not, _&&_, and-assoc, and-true, false≢true}
 use native.Mathlib.Decide.{decLe}
@@ -27,21 +27,22 @@ use Rattle.model.specs.Told.{done, refusedTold}
 use Rattle.model.specs.Judge.{mostObjects, mostLinks, mostBytes, mostOpen, Verdict, accepted, refused, Test, verdict, unsound, nothingOpen, inRange}
 use Rattle.model.proofs.Refusals.{Comes, none, this, next, verdict-is}
 use Rattle.layout.specs.declared.state.State.{State}
-use Rattle.layout.specs.Words.{closedCount, openDepth, endsAt, linkEndsAt, linksAt, linkWords, need, storeLength, linkLimit, top, linkTop, wordsOf}
+use Rattle.layout.specs.Words.{openDepthAt, closedCount, openDepth, endsAt, linkEndsAt, linksBase, linksAt, linkWords, need, storeLength, linkLimit, top, linkTop, wordsOf}
 use Rattle.layout.specs.Sound.{sound}
-use Rattle.layout.specs.Known.{Read}
+use Rattle.layout.specs.Known.{Innermost}
+use Rattle.layout.specs.declared.span.Span.{Span}
 use Rattle.layout.proofs.Facts.{sound-facts, sound-known}
-use Rattle.steps.specs.Steps.{Out, outcome, tallyIn, settle, limitsOf, startWords, startStep, openStep, putStep, under, linkUnder, linkWordsOf, linkStep, closeStep, droppedBytes, droppedWords, dropStep, tallyStep}
+use Rattle.steps.specs.Steps.{Out, outcome, tallyIn, settleStep, limitsOf, startWords, startStep, openStep, putStep, under, linkWordsOf, linkStep, closeStep, droppedBytes, droppedWords, dropStep, tallyStep}
 use Rattle.steps.specs.Runs.{StoreCall, start, open', put, link, close, drop, tally, stores, left, stepOn}
 use Rattle.steps.proofs.Held.{Held}
 
 -- ---- by a verdict
 
-settle-accepted : {ts : List Test} {out : Out} (b w : List ℕ) → Comes ts accepted → out ≡ settle (verdict ts) b w out
+settle-accepted : {ts : List Test} {out : Out} (b w : List ℕ) → Comes ts accepted → out ≡ settleStep (verdict ts) b w out
 settle-accepted b w c = rw (verdict-is c)
 
 settle-refused : {ts : List Test} {why : Refusal} {b w : List ℕ} {t : Tally} (out : Out) → Comes ts (refused why) → t ≡ beside why (tallyIn b w)
-    → outcome (Refused why t) b w ≡ settle (verdict ts) b w out
+    → outcome (Refused why t) b w ≡ settleStep (verdict ts) b w out
 settle-refused out c e = rw (verdict-is c, e)
 
 -- ---- stores that are not sound
@@ -81,11 +82,11 @@ module _ (objects links bytes records : ℕ) where
   unfolding holds
   startable-is = simp (and-assoc, and-true)
 
-  pub start-fits : not (startable objects links bytes records) ≡ false → (objects ≤ mostObjects) × (bytes ≤ mostBytes) × (need objects links ≤ records)
+  pub start-fits : not (startable objects links bytes records) ≡ false → (bytes < 2 ^ 32) × (need objects links ≤ records)
   start-fits k =
       let h = rw startable-is at (not-false (startable objects links bytes records) k) in
       let at = holds-at _ (and-left ranged (leb (need objects links) records) h) in
-      (leb-true _ _ (at 1), leb-true _ _ (at 4), leb-true _ _ (and-right ranged (leb (need objects links) records) h))
+      (omega (arith, leb-true bytes mostBytes (at 4)), leb-true _ _ (and-right ranged (leb (need objects links) records) h))
 
 module _ (objects links : ℕ) (b w : List ℕ) {t : Tally} (e : t ≡ noTally) where
   pub start-refused : not (startable objects links (length b) (length w)) ≡ true → outcome (Refused Refusal.OutOfRange t) b w ≡ startStep objects links b w
@@ -133,7 +134,7 @@ module _ {b w : List ℕ} {s : State} {t : Tally} (h : Held b w s t) where
   open-full k = settle-refused _ (next isSound (this (le-leb mostOpen (openDepth w) (omega arith)))) (h .tallyIs)
 
   pub open-done : s .depth < mostOpen
-      → outcome (Done (opened t)) b (set (set (set w (endsAt + s .depth + 1) (s .top)) (linkEndsAt + s .depth + 1) (s .«link_top»)) 2 (s .depth + 1)) ≡ openStep b w
+      → outcome (Done (opened t)) b (set (set (set w (endsAt + s .depth + 1) (s .top)) (linkEndsAt + s .depth + 1) (s .«link_top»)) openDepthAt (s .depth + 1)) ≡ openStep b w
   unfolding openStep
   open-done k =
       let r = h .counts in
@@ -163,12 +164,9 @@ module _ {b w : List ℕ} {s : State} {t : Tally} (h : Held b w s t) where
   unfolding dropStep
   drop-none k = settle-refused _ (idle k) (h .tallyIs)
 
-  pub drop-done : {from first : ℕ} → (s .depth ≡ 0 → ⊥) → from ≡ under w → first ≡ linkUnder w
-      → outcome (Done (released (s .top - from) (s .«link_top» - first) t)) (droppedBytes b w) (droppedWords w) ≡ dropStep b w
+  pub drop-done : {own : Span} → Innermost w s own → outcome (Done (released (own .to - own .from) (own .last - own .first) t)) (droppedBytes b w) (droppedWords w) ≡ dropStep b w
   unfolding dropStep
-  drop-done some e f =
-      let r = h .counts in
-      rw (e, f, h .tallyIs, r .topIs, r .linkTopIs) (settle-accepted b w (ready some none))
+  drop-done k = rw (k .is, h .tallyIs) (settle-accepted b w (ready (λ e. omega (arith, k .some)) none))
 
   -- ---- link
 
@@ -220,13 +218,14 @@ link-stored : (i : ℕ) (l : Link) (w : List ℕ) → i + 2 < length w → set (
 unfolding over
 link-stored i l w h = let e : i + 2 ≡ suc (suc i) = omega arith in rw (add-one, e) (rw append-assoc at (sets-eq (wordsOf l) w i (omega arith)))
 
-pub append-done : {b w : List ℕ} {s : State} {from : ℕ} (width child : ℕ) → Read b w s → s .«link_top» < s .«link_low» → from ≡ under w
-    → let i = 135 + s .objects * 2 + s .«link_top» * linkWords in
-    set (set (set (set (set w i (s .top - from)) (i + 1) width) (i + 2) child) (endsAt + s .depth) (s .top + width)) (linkEndsAt + s .depth) (s .«link_top» + 1)
+pub append-done : {w : List ℕ} {s : State} {own : Span} (width child : ℕ) → Innermost w s own → s .«link_top» < s .«link_low»
+    → let i = linksBase + s .objects * 2 + s .«link_top» * linkWords in
+    set (set (set (set (set w i (own .to - own .from)) (i + 1) width) (i + 2) child) (endsAt + s .depth) (s .top + width)) (linkEndsAt + s .depth) (s .«link_top» + 1)
     ≡ linkWordsOf width child w
-append-done {w = w} width child r h e =
-    rw (e, r .objectsIs, r .linkTopIs, r .topIs, r .depthIs)
-    (rw (link-stored (linksAt w + linkTop w * linkWords) (record { at = top w - under w; width = width; child = child }) w (omega arith)))
+append-done {w} {s} width child k h =
+    let long : linksBase + s .objects * 2 + s .«link_top» * linkWords + 2 < length w = omega (arith, k .words .bounds) in
+    rw (k .is, k .words .is)
+    (rw (link-stored (linksAt w + linkTop w * linkWords) (record { at = top w - under w; width = width; child = child }) w (rw (k .words .is) at long)))
 
 -- a put of no bytes with an object open is accepted and changes nothing
 pub put-nothing : (b w : List ℕ) → sound b w ≡ true → 0 < openDepth w → stepOn (put []) (stores b w) ≡ left (done (tallyIn b w)) b w

@@ -1,7 +1,7 @@
 -- `show` meets its contract: the words given are loaded, and the graph in them is tidy.
 use mathlib.Core.Path.{refl}
 use native.Mathlib.Omega.{arith}
-use Rattle.orders.proofs.Given.{told, given-room, loaded-ready}
+use Rattle.orders.proofs.Given.{told, given-room, given-few, loaded-stood}
 use borrow.Author.Needs.{needs}
 use Rattle.orders.proofs.show.Statement.{statement}
 use Rattle.orders.proofs.show.Tie as tie
@@ -12,21 +12,27 @@ slice-aggregate-work c = search needs
 load-requires : tie.Need-load-requires
 load-requires c κs =
     let start = c .before .before .before .before .before in
-    omega (arith, given-room (start .args .p) (start .args .nodes .now) (start .args .links .now) (start .pre))
+    omega (arith, given-room (start .args .p) _ (start .args .nodes .now) (start .args .links .now) (start .pre))
 
 load-requires-2 : tie.Need-load-requires-2
 load-requires-2 c κs =
-    let start = c .before .before .before .before .before .before .before .before .before in
-    omega (arith, given-room (start .args .p) (start .args .nodes .now) (start .args .links .now) (start .pre), c .before .before .before .load .ensures .long)
+    let at-nodes = c .before .before .before in
+    let start = at-nodes .before .before .before .before .before .before in
+    omega (arith, given-room (start .args .p) _ (start .args .nodes .now) (start .args .links .now) (start .pre), at-nodes .load .ensures .long)
 
 print-name-requires : tie.Need-print-name-requires
 print-name-requires c κs = search needs
 
-add-show-orders : tie.Need-add-show-orders
-add-show-orders c = search needs
+of-requires : tie.Need-of-requires
+of-requires c κs =
+    let start = c .before .before .before .before .before .before .before .before .before .before .before .before .before in
+    given-few (start .args .p) _ (start .args .nodes .now) (start .args .links .now) (start .pre)
 
 show-orders-requires : tie.Need-show-orders-requires
-show-orders-requires c κs = loaded-ready (told _ _ (c .before .before .before .before .before .before .before .before .before .before .before .before .before .pre)) refl (c .before .before .before .before .before .before .before .load .ensures) (c .before .before .before .load2 .ensures)
+show-orders-requires c κs =
+    let at-links = c .before .before .before .before in
+    let at-nodes = at-links .before .before .before .before in
+    loaded-stood (told _ _ _ (at-nodes .before .before .before .before .before .before .pre)) (c .of .ensures) refl (at-nodes .load .ensures) (at-links .load2 .ensures)
 
 returns : tie.Need-returns
 returns c = search needs
@@ -39,6 +45,6 @@ show-spec =
     load-requires
     load-requires-2
     print-name-requires
-    add-show-orders
+    of-requires
     show-orders-requires
     returns)

@@ -10,6 +10,9 @@ use Rattle.lists.proofs.Tests.{zeros-part}
 use Rattle.memory.proofs.bytes.all_zero.Statement.{statement}
 use Rattle.memory.proofs.bytes.all_zero.Tie as tie
 
+abbrev run : ℕ
+run = 4096
+
 abbrev Inv-loop : tie.InvT-loop
 Inv-loop s i₀ i = (i ≤ length s) × (zeros s ≡ zeros (drop i s))
 
@@ -32,7 +35,7 @@ returns : tie.Need-returns Inv-loop μ-loop
 returns c =
     let l = c .before .before .before .loop in
     let z = sym (c .before .run-zero .ensures) ∙ not-true _ (c .if1 .taken) in
-    sym (l .inv .1 ∙ zeros-part (l .i) (l .i + 4096) _ (search needs) ∙ rw z)
+    sym (l .inv .1 ∙ zeros-part (l .i) (l .i + run) _ (search needs) ∙ rw z)
 
 add-i : tie.Need-add-i Inv-loop μ-loop
 add-i c = search needs
@@ -44,7 +47,7 @@ loop-again : tie.Need-loop-again Inv-loop μ-loop
 loop-again c =
     let l = c .before .before .before .loop in
     let z = sym (c .before .run-zero .ensures) ∙ not-false _ (c .if1 .left) in
-    (search needs, l .inv .1 ∙ zeros-part (l .i) (l .i + 4096) _ (search needs) ∙ rw z)
+    (search needs, l .inv .1 ∙ zeros-part (l .i) (l .i + run) _ (search needs) ∙ rw z)
 
 run-zero-requires-2 : tie.Need-run-zero-requires-2 Inv-loop μ-loop
 run-zero-requires-2 c κs = search needs

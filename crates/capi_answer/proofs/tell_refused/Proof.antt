@@ -1,0 +1,19 @@
+-- The refusal's number and the link it names, beside the tally.
+use borrow.Author.Needs.{needs}
+use Rattle.capi_answer.proofs.tell_refused.Statement.{statement}
+use Rattle.capi_answer.proofs.tell_refused.Tie as tie
+
+number-of-requires : tie.Need-number-of-requires
+number-of-requires c κs = search needs
+
+named-by-requires : tie.Need-named-by-requires
+named-by-requires c κs = search needs
+
+ten-requires : tie.Need-ten-requires
+ten-requires c κs = search needs
+
+returns : tie.Need-returns
+returns c = rw (← c .before .before .number-of .ensures, ← c .before .named-by .ensures) (c .ten .ensures)
+
+pub tell-refused-spec : {M : Type 1} → statement M
+tell-refused-spec = tie.close (tie.spec number-of-requires named-by-requires ten-requires returns)

@@ -1,0 +1,26 @@
+-- The hand-counted cases on lent memory, by one claim over their list, which the checker computes.
+use mathlib.Core.Path.{_≡_, refl}
+use mathlib.Core.Bool.{true}
+use Rattle.lists.specs.Lists.{sameList, total, firstThat, over, holds, zeros}
+use Rattle.big_endian.specs.BigEndian.{bigEndian}
+use Rattle.model.specs.Bag.{one, count, without, zerosOf, lastOnce, least}
+use Rattle.model.specs.Graph.{kidsOf, waits, reachDown, reached}
+use Rattle.model.specs.Order.{orderFrom, orderBy}
+use Rattle.model.specs.Distance.{relax, relaxAll, distancesBy, beyond, distance, kahnOrder, distanceOrder}
+use Rattle.model.specs.Table.{before, offset, unfitLinks, unfitFrom, tryOrder, tryLast, firstFit, arranged, tableLength, filled, objectBytes, tableFrom, tableOf}
+use Rattle.model.specs.Judge.{verdict}
+use Rattle.model.specs.Cases.{cases}
+use Rattle.layout.specs.Tables.{chain, chained, forAll}
+use Rattle.layout.specs.Words.{linksOf}
+use Rattle.layout.specs.Fields.{fieldTests, fieldsOk}
+use Rattle.layout.specs.Sound.{headTests, headOk, tableTests, soundTests, sound}
+use Rattle.layout.specs.Decode.{opensTo, closedTo, decode}
+use Rattle.steps.specs.Steps.{startStep, openStep, putStep, linkStep, dropStep, tallyStep, twinIn, closeStep}
+use Rattle.steps.specs.Runs.{stepOn, lentStep}
+use Rattle.steps.specs.Pack.{packStep}
+use Rattle.claims.specs.Demand.{run}
+use Rattle.claims.specs.Cases.{idsTold, countsTold, memoryRight, right, allRight}
+
+pub cases-right : allRight cases ≡ true
+unfolding allRight right memoryRight countsTold idsTold run lentStep packStep stepOn startStep openStep putStep linkStep dropStep tallyStep twinIn closeStep opensTo closedTo decode headTests headOk tableTests soundTests sound fieldTests fieldsOk linksOf chain chained forAll verdict arranged firstFit tryOrder tryLast unfitFrom unfitLinks offset before tableLength tableOf tableFrom objectBytes filled kahnOrder distanceOrder distance distancesBy beyond relaxAll relax orderBy orderFrom reached reachDown waits kidsOf one count without zerosOf lastOnce least sameList total firstThat over holds zeros bigEndian
+cases-right = refl

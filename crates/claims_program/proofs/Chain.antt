@@ -1,0 +1,28 @@
+-- Calls that are the steps, however they are known: demand 1 of each, and demand 3 of every list of them.
+use mathlib.Core.Path.{_≡_, refl, ap, _∙_}
+use mathlib.Core.List.{List, [], _∷_}
+use Rattle.steps.specs.Runs.{start, Stores, LentCall, onStores, lentStep}
+use Rattle.claims.specs.Calls.{Answers}
+use Rattle.claims.specs.Demand.{Made, run}
+use Rattle.claims.proofs.Calls.{answers}
+use Rattle.claims.proofs.Demand.{demand-3}
+use Rattle.claims_program.specs.Chain.{Ran, none, more, EveryList}
+
+unfoldable callsOf : List Made → List LentCall
+callsOf [] = []
+callsOf (m ∷ ms) = m .call ∷ callsOf ms
+
+module _ {called : Stores → Made → Type 0} (step : (s : Stores) (m : Made) → called s m → m .left ≡ lentStep (m .call) s) where
+  ran-run : {s : Stores} {ms : List Made} → Ran called s ms → ms ≡ run (callsOf ms) s
+  unfolding callsOf run
+  ran-run none = refl
+  ran-run (more {s = s} {m = m} {ms = ms} c r) = ap (_∷_ m) (ran-run r) ∙ ap (λ l. record { call = m .call; left = l } ∷ run (callsOf ms) (l .stores)) (step s m c)
+
+  pub step-answers : {s : Stores} {m : Made} → called s m → Answers s (m .call) (m .left)
+  step-answers {s = s} {m = m} c = rw (step s m c) (answers s (m .call))
+
+  pub steps-claim : EveryList called
+  unfolding lentStep
+  steps-claim objects links s first ms c e z r =
+      let l : first .left ≡ lentStep (onStores (start objects links)) s = rw e at (step s first c) in
+      rw (ran-run r, l) (demand-3 objects links s (rw l at z) (callsOf ms))

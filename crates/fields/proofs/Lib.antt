@@ -1,2 +1,0 @@
-pub mod ForAll
-pub mod Spans

@@ -1,0 +1,54 @@
+-- Either order has what the root reaches, each once, and goes by its keys.
+use mathlib.Core.Path.{_≡_, refl}
+use Prim.Native.Nat.{ℕ, _≤_, _<_}
+use mathlib.Core.List.{List}
+use native.Mathlib.Omega.{arith}
+use lib.ListN.{getD-replicate}
+use Rattle.model.specs.Bag.{count}
+use Rattle.model.specs.Graph.{Graph, reached, Acyclic, Closed, Once}
+use Rattle.model.specs.Order.{orderBy}
+use Rattle.model.specs.Distance.{distance, kahnOrder, distanceOrder}
+use Rattle.model.proofs.Reach.{reached-rooted, reached-low}
+use Rattle.model.proofs.Orders.{orderBy-once}
+use Rattle.work.specs.Views.{keyIn}
+use Rattle.work.specs.declared.Areas.{Areas}
+use Rattle.order_graph.specs.Graph.{graphOn}
+use Rattle.order_survey.specs.Survey.{Surveyed}
+use Rattle.order.specs.Try.{Keyed, orderWith}
+use Rattle.order.specs.declared.By.{By}
+use Rattle.order.specs.declared.By.the-variants as By
+use Rattle.order.proofs.Counted.{orders-agree}
+
+-- the key of an object
+abbrev keyWith : By → Graph → ℕ → ℕ → ℕ
+keyWith By.Readiness g root i = 0
+keyWith By.Distance g root i = distance g root i
+
+with-key : (by : By) (g : Graph) (root : ℕ) → orderWith by g root ≡ orderBy (keyWith by g root) g root
+unfolding kahnOrder distanceOrder
+with-key By.Readiness g root = refl
+with-key By.Distance g root = refl
+
+module _ (by : By) (g : Graph) (y : Acyclic g) (root : ℕ) where
+  pub with-counts : (c : ℕ) → count c (orderWith by g root) ≡ count c (reached g root)
+  with-counts c = rw (with-key by g root) (orderBy-once (keyWith by g root) g y root c)
+
+  pub with-once : Once (orderWith by g root)
+  unfolding Once
+  with-once c = omega (arith, with-counts c, reached-rooted g root y .once c)
+
+  pub with-closed : Closed g (orderWith by g root)
+  unfolding Closed
+  with-closed p c h k = rw (with-counts c) (reached-rooted g root y .closed p c (rw (with-counts p) at h) k)
+
+  pub with-low : (c : ℕ) → 0 < count c (orderWith by g root) → c ≤ root
+  with-low c h = omega (arith, reached-low g root c (rw (with-counts c) at h))
+
+-- the keys filled in give that order
+module _ {a : Areas} {n root : ℕ} {w w′ : List ℕ} (t : Surveyed a n root w) where
+  filled-key : (by : By) → Keyed a by w w′ → (c : ℕ) → 0 < count c (reached (graphOn a n w) root) → keyIn a w′ c ≡ keyWith by (graphOn a n w) root c
+  filled-key By.Readiness k c h = rw (k .keys) (getD-replicate (a .nodes) c 0 0 (omega (arith, reached-low (graphOn a n w) root c h)))
+  filled-key By.Distance k c h = rw (k .keys) (t .distances c h)
+
+  pub filled-order : {by : By} → Keyed a by w w′ → orderBy (keyIn a w′) (graphOn a n w) root ≡ orderWith by (graphOn a n w) root
+  filled-order {by} k = rw (with-key by (graphOn a n w) root) (orders-agree (graphOn a n w) (t .falls) root (keyIn a w′) (keyWith by (graphOn a n w) root) (filled-key by k))

@@ -1,0 +1,4 @@
+pub mod Releasing
+pub mod Taking
+pub mod Going
+pub mod Starting

@@ -1,0 +1,74 @@
+-- `release` meets its contract: no link was left, the last one, or more.
+use native.Mathlib.Omega.{arith}
+use lib.ListN.{length-set}
+use borrow.Author.Needs.{needs}
+use Rattle.order_ready.proofs.Releasing.{release-none, release-some, release-last, release-room}
+use Rattle.order_ready.proofs.release.Statement.{statement}
+use Rattle.order_ready.proofs.release.Tie as tie
+
+add-j : tie.Need-add-j
+add-j c = search needs
+
+mul-v : tie.Need-mul-v
+mul-v c = search needs
+
+slice-read-v : tie.Need-slice-read-v
+slice-read-v c = search needs
+
+returns : tie.Need-returns
+returns c = (search needs, release-none (c .before .before .before .pre) (c .if1 .taken))
+
+sub-work : tie.Need-sub-work
+sub-work c = search needs
+
+mul-work : tie.Need-mul-work
+mul-work c = search needs
+
+slice-write-work : tie.Need-slice-write-work
+slice-write-work c = search needs
+
+add-work : tie.Need-add-work
+add-work c = search needs
+
+mul-work-2 : tie.Need-mul-work-2
+mul-work-2 c = search needs
+
+slice-write-work-2 : tie.Need-slice-write-work-2
+slice-write-work-2 c = simp length-set (omega (arith, release-room (c .before .before .before .before .pre) (c .if2 .taken)))
+
+add-result : tie.Need-add-result
+add-result c = search needs
+
+same-length : tie.Need-same-length
+same-length c = search needs
+
+returns-2 : tie.Need-returns-2
+returns-2 c =
+    let pre = c .before .before .before .before .pre in
+    (omega (arith, release-room pre (c .if2 .taken)), release-last pre (c .if2 .taken))
+
+same-length-2 : tie.Need-same-length-2
+same-length-2 c = search needs
+
+returns-3 : tie.Need-returns-3
+returns-3 c = (search needs, release-some (c .before .before .before .before .pre) (c .if2 .left))
+
+pub release-spec : {M : Type 1} → statement M
+release-spec =
+    tie.close
+    (tie.spec
+    add-j
+    mul-v
+    slice-read-v
+    returns
+    sub-work
+    mul-work
+    slice-write-work
+    add-work
+    mul-work-2
+    slice-write-work-2
+    add-result
+    same-length
+    returns-2
+    same-length-2
+    returns-3)

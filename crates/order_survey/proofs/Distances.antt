@@ -1,0 +1,94 @@
+-- What the distances in the work memory end as is the model's: both are least sums, and no path is as long as `farAway`.
+use mathlib.Core.Path.{_≡_, refl, _∙_}
+use Prim.Native.Nat.{ℕ, suc, _+_, _-_, _*_, _≤_, _<_}
+use mathlib.Core.List.{List, []}
+use native.Mathlib.Omega.{arith}
+use native.Mathlib.Decide.{decLe}
+use lib.ListN.{length, getD, replicate, length-set, length-replicate}
+use borrow.Author.Tests.{le-ltb, lt-ltb}
+use Rattle.big_endian.proofs.Laws.{capacity-rises}
+use Rattle.model.specs.Bag.{count}
+use Rattle.model.specs.Object.{Link}
+use Rattle.model.specs.Words.{linkWords, linkAt}
+use Rattle.model.specs.Graph.{Graph, reached, Ranked, Acyclic}
+use Rattle.model.specs.Distance.{In, here, there, Path, start, along, Least, weight, distancesBy, distance}
+use Rattle.model.proofs.Reach.{reached-rooted, reached-first, reached-low}
+use Rattle.model.proofs.Distances.{in-kids, all-length, distance-least, distance-is-least}
+use Rattle.work.specs.declared.Areas.{Areas}
+use Rattle.order_graph.specs.Graph.{graphIn, linksFrom, linksAt, linkCount, linkOf, mostNodes, mostWeight, Tidy}
+use Rattle.order_graph.proofs.Links.{width-narrow}
+use Rattle.order_survey.specs.Survey.{farAway}
+use Rattle.order_survey.proofs.Lowers.{getD-inside}
+
+abbrev pub Light : Graph → Type 0
+Light g = (i : ℕ) (l : Link) → In l (g .links i) → weight g l < mostWeight
+
+-- ---- a tidy graph is light
+
+-- what holds of each link's words holds of the links read
+links-each : (P : Link → Type 0) (f : List ℕ) (j k : ℕ) → ((t : ℕ) → t < k → P (linkAt f (j + t * linkWords))) → (l : Link) → In l (linksFrom f j k) → P l
+unfolding linksFrom
+links-each P f j (suc k) h l (here e) = let z : j + 0 * linkWords ≡ j = omega arith in rw (e, ← z) (h 0 (omega arith))
+links-each P f j (suc k) h l (there i) =
+    links-each P f (j + linkWords) k (λ t b. let z : j + linkWords + t * linkWords ≡ j + suc t * linkWords = omega arith in rw z (h (suc t) (omega arith))) l i
+
+-- only nodes below n have links
+pub node-links : (a : Areas) (n : ℕ) (f : List ℕ) (P : Link → Type 0) (i : ℕ) → (i < n → (t : ℕ) → t < linkCount a f i → P (linkOf a f i t))
+    → (l : Link) → In l (graphIn a n f .links i) → P l
+node-links a n f P i h l k = go (decLe (suc i) n)
+  where
+    none : In l [] → P l
+    none = elim [ ]
+
+    go : Dec (i < n) → P l
+    go (yes b) =
+        let z : linksAt a f i + 0 * linkWords ≡ linksAt a f i = omega arith in
+        links-each P f (linksAt a f i + 0 * linkWords) (linkCount a f i - 0) (λ m c. rw z (h b m (omega arith))) l (rw (lt-ltb i n b) at k)
+    go (no b) = none (rw (le-ltb i n (omega arith)) at k)
+
+pub tidy-light : {a : Areas} {n : ℕ} {f : List ℕ} → Tidy a n f → Light (graphIn a n f)
+tidy-light {a} {n} {f} s i l k = node-links a n f (λ m. weight (graphIn a n f) m < mostWeight) i light l k
+  where
+    light : i < n → (t : ℕ) → t < linkCount a f i → weight (graphIn a n f) (linkOf a f i t) < mostWeight
+    light b t h =
+        let o = s .node i b in
+        let c = linkOf a f i t .child in
+        rw (lt-ltb c n (o .known t h)) (omega (arith, s .light c (o .known t h), capacity-rises (linkOf a f i t .width) 4 (width-narrow (linkOf a f i t .width) (o .wide t h))))
+
+-- ---- no path is as long as `farAway`
+
+-- every step leads to a lower id
+path-short : (g : Graph) → Acyclic g → Light g → (root : ℕ) {c d : ℕ} → Path g (weight g) root c d → d + c * mostWeight ≤ root * mostWeight
+unfolding Ranked
+path-short g y light root (start e z) = rw (e, z) (omega arith)
+path-short g y light root (along {p = p} l w i e z) =
+    let s = y p (l .child) (in-kids l (g .links p) i) in
+    rw (e, z) (omega (arith, light p l i, path-short g y light root w))
+
+paths-near : mostNodes * mostWeight ≤ farAway
+paths-near = omega arith
+
+-- there is one least sum
+least-one : {g : Graph} {wt : Link → ℕ} {root c d e : ℕ} → Least g wt root c d → Least g wt root c e → d ≡ e
+least-one {d = d} {e = e} u v = omega (arith, u .least e (v .path), v .least d (u .path))
+
+module _ (g : Graph) (y : Acyclic g) (light : Light g) (nodes root : ℕ) (h : root < nodes) (few : nodes ≤ mostNodes) where
+  abbrev sums : List ℕ
+  sums = distancesBy farAway (weight g) g (reached g root) nodes root
+
+  sums-long : length sums ≡ nodes
+  unfolding distancesBy
+  sums-long = all-length farAway (weight g) g (reached g root) _ ∙ length-set (replicate nodes farAway) root 0 ∙ length-replicate nodes farAway
+
+  inside : (c : ℕ) → 0 < count c (reached g root) → c < nodes
+  inside c k = omega (arith, reached-low g root c k)
+
+  sums-least : (c : ℕ) → 0 < count c (reached g root) → Least g (weight g) root c (getD sums c farAway)
+  sums-least c k =
+      distance-least farAway (weight g) g (reached g root) root (reached-rooted g root y) (reached g root) (λ c. refl) (reached-first g y root) nodes inside (λ i. i) y
+      (λ c d v. omega (arith, path-short g y light root v, paths-near)) c k
+
+  pub sums-distance : (c : ℕ) → 0 < count c (reached g root) → getD sums c 0 ≡ distance g root c
+  sums-distance c k =
+      rw (getD-inside sums c 0 farAway (omega (arith, sums-long, inside c k)))
+      (least-one (sums-least c k) (distance-is-least g root y c k))

@@ -1,0 +1,110 @@
+-- The steps of a survey joined, and what they found said by the model's definitions.
+use mathlib.Core.Path.{_≡_, sym, ap, _∙_}
+use Prim.Native.Nat.{ℕ, _+_, _<_}
+use mathlib.Core.List.{List}
+use native.Mathlib.Omega.{arith}
+use lib.ListN.{getD, set, take}
+use lib.Seq.{getD-set-same, getD-set-other}
+use Rattle.lists.specs.Lists.{total}
+use Rattle.regions.specs.Region.{Kept}
+use Rattle.regions.proofs.Laws.{region-length, region-in, region-over}
+use Rattle.regions.proofs.Frame.{kept-then, kept-set, kept-less, kept-below, kept-above}
+use Rattle.model.specs.Bag.{one, count}
+use Rattle.model.specs.Graph.{Graph, waits, reached, Acyclic}
+use Rattle.model.specs.Distance.{distance}
+use Rattle.model.specs.Table.{tableLength}
+use Rattle.model.proofs.Bags.{Same, same, other, sameOr}
+use Rattle.model.proofs.Reach.{reached-rooted}
+use Rattle.work.specs.Views.{lineIn, incomingIn, distancesIn}
+use Rattle.work.specs.declared.Areas.{Areas}
+use Rattle.order_graph.specs.Graph.{graphOn, AtNode}
+use Rattle.order_graph.proofs.Links.{front-kept, stands-kept}
+use Rattle.order_survey.specs.Survey.{Lined, unlined, LineFound, Along, DistancesSet, Surveyed, Measured}
+use Rattle.order_survey.proofs.Nodes.{along-kept}
+use Rattle.order_survey.proofs.Lines.{line-reached, incoming-waits}
+use Rattle.order_survey.proofs.Distances.{tidy-light, sums-distance}
+
+module _ {a : Areas} {n root r : ℕ} {w w₁ : List ℕ} (s : AtNode a n root w) (f : LineFound a n root r (unlined (a .nodes) root) w w₁) where
+  -- the root counts no more as led to
+  abbrev cleared : List ℕ
+  cleared = set w₁ (a .incoming + root) 0
+
+  kept-cleared : Kept (a .line) (a .distances) w cleared
+  kept-cleared = kept-then (f .kept) (kept-set (a .line) (a .distances) w₁ (a .incoming + root) 0 (omega arith) (omega arith))
+
+  line-cleared : lineIn a r cleared ≡ lineIn a r w₁
+  line-cleared = region-over (a .line) r w₁ (a .incoming + root) 0 (omega arith)
+
+  pub cleared-along : Along a n r cleared
+  cleared-along = record { graph = stands-kept (s .graph) kept-cleared (omega arith); few = f .few; ids = rw line-cleared (f .ids) }
+
+  module _ (y : Acyclic (graphOn a n w)) {w₂ : List ℕ} (d : DistancesSet a n root r cleared w₂) where
+    abbrev graph : Graph
+    graph = graphOn a n w
+
+    room : root < a .nodes
+    room = omega arith
+
+    pub survey-kept : Kept (a .line) (a .end) w w₂
+    survey-kept =
+        kept-then (kept-less kept-cleared (a .line) (a .end) (omega arith) (omega arith)) (kept-less (d .kept) (a .line) (a .end) (omega arith) (omega arith))
+
+    front-cleared : take (a .keys) cleared ≡ take (a .keys) w
+    front-cleared = front-kept (s .graph) kept-cleared (omega arith)
+
+    front : take (a .keys) w₂ ≡ take (a .keys) w
+    front = front-kept (s .graph) survey-kept (omega arith)
+
+    pub survey-along : Along a n r w₂
+    survey-along = along-kept cleared-along (d .kept)
+
+    line : lineIn a r cleared ≡ reached graph root
+    line = line-cleared ∙ ap (λ (t : Lined). t .line) (f .found) ∙ line-reached graph y (a .nodes) root room
+
+    counted : (c : ℕ) → getD (incomingIn a w₁) c 0 ≡ one c root + waits graph (reached graph root) c
+    counted c = ap (λ (t : Lined). getD (t .incoming) c 0) (f .found) ∙ incoming-waits graph y (a .nodes) root room c
+
+    incoming : (c : ℕ) → getD (incomingIn a w₂) c 0 ≡ waits graph (reached graph root) c
+    incoming c =
+        rw (kept-below (d .kept) (a .incoming) (a .nodes) (omega arith), region-in (a .incoming) (a .nodes) w₁ root 0 room) (go (sameOr c root))
+      where
+        go : Same c root → getD (set (incomingIn a w₁) root 0) c 0 ≡ waits graph (reached graph root) c
+        go (same e _ _) =
+            rw e (
+            getD-set-same (incomingIn a w₁) root 0 0 (rw (region-length (a .incoming) (a .nodes) w₁ (omega arith)) room)
+            ∙ sym (reached-rooted graph root y .root-free)
+            )
+        go (other k _ o) = getD-set-other (incomingIn a w₁) root c 0 0 k ∙ counted c ∙ rw o (omega arith)
+
+    distances : (c : ℕ) → 0 < count c (reached graph root) → getD (distancesIn a w₂) c 0 ≡ distance graph root c
+    distances c k =
+        rw (d .distances, front-cleared, line) (sums-distance graph y (tidy-light (s .graph .tidy)) (a .nodes) root room (s .graph .tidy .limit) c k)
+
+    pub survey-all : {long : ℕ} → long ≡ total (graphOn a n w₂ .size) (lineIn a r w₂) → Measured a n root long w w₂
+    unfolding tableLength
+    survey-all e =
+        record {
+          kept = survey-kept;
+          surveyed = record {
+            graph = stands-kept (s .graph) survey-kept (omega arith);
+            inside = s .inside;
+            falls = rw front y;
+            incoming = λ c. rw front (incoming c);
+            distances = λ c k. rw front (distances c (rw front at k));
+          };
+          size = e ∙ rw (front, kept-below (d .kept) (a .line) r (omega arith), line);
+        }
+
+-- it holds while orders are tried: they change neither the graph nor anything from the incoming fields on
+pub surveyed-kept : {a : Areas} {n root : ℕ} {w w′ : List ℕ} → Surveyed a n root w → Kept (a .keys) (a .incoming) w w′ → Surveyed a n root w′
+surveyed-kept {a} s k =
+    let front = front-kept (s .graph) k (omega arith) in
+    let same-incoming = kept-above k (a .incoming) (a .nodes) (omega arith) in
+    let same-distances = kept-above k (a .distances) (a .nodes) (omega arith) in
+    record {
+      graph = stands-kept (s .graph) k (omega arith);
+      inside = s .inside;
+      falls = rw front (s .falls);
+      incoming = λ c. rw (front, same-incoming) (s .incoming c);
+      distances = λ c h. rw (front, same-distances) (s .distances c (rw front at h));
+    }

@@ -1,5 +1,0 @@
-pub mod Releasing
-pub mod Taking
-pub mod Going
-pub mod Root
-pub mod Arranging

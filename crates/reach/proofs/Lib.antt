@@ -1,3 +1,0 @@
-pub mod Touching
-pub mod Falling
-pub mod Marked

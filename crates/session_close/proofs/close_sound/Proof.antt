@@ -1,0 +1,145 @@
+-- Each return is one way of `closeStep`.
+use native.Mathlib.Omega.{arith}
+use borrow.Author.Needs.{needs}
+use Rattle.layout.proofs.Facts.{words-read, size-known}
+use Rattle.steps.proofs.Held.{held, some-open, one-more}
+use Rattle.session_close.proofs.Closes.{Ready, close-none, close-empty, close-twin, close-full, close-new}
+use Rattle.session_close.proofs.close_sound.Statement.{statement}
+use Rattle.session_close.proofs.close_sound.Tie as tie
+
+inner : (c : tie.Else2)
+    → let o = c .before .before in
+    let k = o .before .before .before .before in
+    let a = k .before .before .before .before .before .before .args in
+    Ready (a .store .now) (a .records .now) (k .before .read .result) (k .tally-of .result) (o .innermost .result)
+inner c =
+    let o = c .before .before in
+    let k = o .before .before .before .before in
+    record { held = held (k .before .read .ensures) (k .tally-of .ensures); lies = o .innermost .ensures; filled = c .if2 .left }
+
+read-requires : tie.Need-read-requires
+read-requires c κs = search needs
+
+tally-of-requires : tie.Need-tally-of-requires
+tally-of-requires c κs = search needs
+
+same-length : tie.Need-same-length
+same-length c = search needs
+
+same-length-2 : tie.Need-same-length-2
+same-length-2 c = search needs
+
+returns : tie.Need-returns
+returns c = close-none (held (c .before .before .before .read .ensures) (c .before .before .tally-of .ensures)) (c .if1 .taken)
+
+innermost-requires : tie.Need-innermost-requires
+innermost-requires c κs = (words-read (c .before .before .before .before .read .ensures), some-open (c .before .if1 .left))
+
+same-length-3 : tie.Need-same-length-3
+same-length-3 c = search needs
+
+same-length-4 : tie.Need-same-length-4
+same-length-4 c = search needs
+
+returns-2 : tie.Need-returns-2
+returns-2 c = close-empty (held (c .before .before .before .before .before .before .before .read .ensures) (c .before .before .before .before .before .before .tally-of .ensures)) (c .before .before .innermost .ensures) (c .if2 .taken)
+
+find-requires : tie.Need-find-requires
+find-requires c κs = search needs
+
+cast-if3 : tie.Need-cast-if3
+cast-if3 c = search needs
+
+forget-requires : tie.Need-forget-requires
+forget-requires c κs = (c .before .before .before .before .before .before .before .before .before .before .innermost .ensures, size-known (c .before .before .before .before .before .before .before .before .before .before .before .before .before .before .before .read .ensures))
+
+sub-discard : tie.Need-sub-discard
+sub-discard c = search needs
+
+sub-discard-2 : tie.Need-sub-discard-2
+sub-discard-2 c = search needs
+
+discard-requires : tie.Need-discard-requires
+discard-requires c κs =
+    let k = inner (c .before .before .before .before .before .before .before .before .before .before .before .before .before .before .before) in
+    omega (arith, k .held, k .lies)
+
+same-length-5 : tie.Need-same-length-5
+same-length-5 c = search needs
+
+same-length-6 : tie.Need-same-length-6
+same-length-6 c = search needs
+
+returns-3 : tie.Need-returns-3
+returns-3 c =
+    let f = c .before .before .before .before .before .before .before in
+    let d = f .before .before .before in
+    let i = d .before .before .before in
+    rw (c .discard .ensures, f .forget .ensures .0, f .forget .ensures .1) (close-twin (inner (i .before .before .before)) (i .find .ensures) (d .if3 .taken))
+
+same-length-7 : tie.Need-same-length-7
+same-length-7 c = search needs
+
+same-length-8 : tie.Need-same-length-8
+same-length-8 c = search needs
+
+returns-4 : tie.Need-returns-4
+returns-4 c =
+    let d = c .before .before in
+    let i = d .before .before .before in
+    close-full (inner (i .before .before .before)) (i .find .ensures) (d .if3 .left) (c .if4 .taken)
+
+seal-requires : tie.Need-seal-requires
+seal-requires c κs =
+    let k = inner (c .before .before .before .before .before .before .before .before .before .before) in
+    (k .lies, c .before .before .if4 .left, size-known (k .held .counts))
+
+add-requires : tie.Need-add-requires
+add-requires c κs =
+    let k = inner (c .before .before .before .before .before .before .before .before .before .before .before .before .before .before .before) in
+    one-more (k .held) (c .before .before .before .before .before .before .before .if4 .left) (k .lies .some)
+
+same-length-9 : tie.Need-same-length-9
+same-length-9 c = search needs
+
+same-length-10 : tie.Need-same-length-10
+same-length-10 c = search needs
+
+returns-5 : tie.Need-returns-5
+returns-5 c =
+    let w = c .before .before .before .before .before in
+    let n = w .before .before .before in
+    let d = n .before .before in
+    let i = d .before .before .before in
+    rw (c .add .ensures, w .seal .ensures .0, w .seal .ensures .1) (close-new (inner (i .before .before .before)) (i .find .ensures) (d .if3 .left) (n .if4 .left))
+
+pub close-sound-spec : {M : Type 1} → statement M
+close-sound-spec =
+    tie.close
+    (tie.spec
+    read-requires
+    tally-of-requires
+    same-length
+    same-length-2
+    returns
+    innermost-requires
+    same-length-3
+    same-length-4
+    returns-2
+    find-requires
+    cast-if3
+    forget-requires
+    sub-discard
+    sub-discard-2
+    discard-requires
+    same-length-5
+    same-length-6
+    returns-3
+    same-length-7
+    same-length-8
+    returns-4
+    seal-requires
+    add-requires
+    same-length-9
+    same-length-10
+    returns-5)
