@@ -101,18 +101,18 @@ store-answers s c =
 
 module _ (s : Stores) (id : ℕ) (out work : List ℕ) where
   -- by a verdict: its number is told, and a refused one leaves the output
-  record Packed (v : Verdict) (o : PackOut) : Type 0 where
+  record JudgedPack (v : Verdict) (o : PackOut) : Type 0 where
     numberIs : toldByPack (o .answer) .number ≡ numberOf v
     refuses : Refuses s (toldByPack (o .answer))
     outStands : (toldByPack (o .answer) .number ≡ 0 → ⊥) → o .out ≡ out
     -- the work memory cleared, or as it was
     workIs : o .work ≡ pick (clearing (numberOf v)) (cleared (s .words) work) work
 
-  packed-by : (v : Verdict) (n : ℕ) (t : List ℕ) → Packed v (settlePackStep v (s .bytes) (s .words) out work (packed (Done n (tallyIn (s .bytes) (s .words))) t (cleared (s .words) work)))
+  packed-by : (v : Verdict) (n : ℕ) (t : List ℕ) → JudgedPack v (settlePackStep v (s .bytes) (s .words) out work (packed (Done n (tallyIn (s .bytes) (s .words))) t (cleared (s .words) work)))
   packed-by accepted n t = record { numberIs = refl; refuses = λ n. absurd (n refl); outStands = λ n. absurd (n refl); workIs = refl }
   packed-by (refused why) n t = record { numberIs = refl; refuses = λ n. (why, refl); outStands = λ n. refl; workIs = rw (ne-eqb (number why) 0 (λ z. omega (arith, refused-number why))) }
 
-  judged-pack : Packed (verdict (testsOf s (pack id out work))) (packStep id (s .bytes) (s .words) out work)
+  judged-pack : JudgedPack (verdict (testsOf s (pack id out work))) (packStep id (s .bytes) (s .words) out work)
   unfolding testsOf packStep
   judged-pack = packed-by (verdict (testsOf s (pack id out work))) _ _
 

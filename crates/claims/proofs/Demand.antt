@@ -46,7 +46,7 @@ pack-claim {h = h} {id = id} {out = out} {o = o} {m = m} s f g = rw (f .told) re
 
 module _ (bytes words : ℕ) where
   -- the stores, of that many bytes and words, hold a session that mirrors the history
-  record Stands (s : Stores) (h : History) : Type 0 where
+  record Holding (s : Stores) (h : History) : Type 0 where
     session : Session
     drawn : Drawn s session
     mirrors : Mirrors session h
@@ -56,9 +56,9 @@ module _ (bytes words : ℕ) where
   record Claimed (c : LentCall) (s : Stores) (h : History) : Type 0 where
     trusted : lentStep c s .told .number ≡ 12 → ⊥
     claim : Claim bytes words c h (lentStep c s)
-    stands : Stands (lentStep c s .stores) (afterOne bytes words c h)
+    stands : Holding (lentStep c s .stores) (afterOne bytes words c h)
 
-  claimed : (c : LentCall) {s : Stores} {h : History} → Stands s h → Claimed c s h
+  claimed : (c : LentCall) {s : Stores} {h : History} → Holding s h → Claimed c s h
   unfolding lentStep asLent afterAll Claim Agrees afterCall
   claimed (onStores c) {s = s} k =
       let f = rw (k .sameBytes, k .sameWords) at (step-drawn (λ m. workNeed (m .objects) (m .links)) c s (k .session) (k .drawn)) in
@@ -83,7 +83,7 @@ module _ (bytes words : ℕ) where
         stands = record { session = k .session; drawn = k .drawn; mirrors = call-mirrors needs (k .mirrors) d; sameBytes = k .sameBytes; sameWords = k .sameWords };
       }
 
-  stands-agree : {s : Stores} {h : History} → Stands s h → Agree bytes words s h
+  stands-agree : {s : Stores} {h : History} → Holding s h → Agree bytes words s h
   unfolding lentStep Claim asCall expected judged verdict idTold accept AllDifferent
   stands-agree {s = s} k = record {
     sameBytes = k .sameBytes;
@@ -120,7 +120,7 @@ module _ (bytes words : ℕ) where
   unfolding afterAll after asLent asCall accept
   closed-known h c k z = let t = closed-told h k z in rw (z .close-is, t .0, t .1) (known-closed h)
 
-  keeps-id : {r : Reading} {i : ℕ} (cs : List LentCall) {s : Stores} {h : History} → Stands bytes words s h → Known r i (h .closed) → KeepsId bytes words r i (run cs s) h
+  keeps-id : {r : Reading} {i : ℕ} (cs : List LentCall) {s : Stores} {h : History} → Holding bytes words s h → Known r i (h .closed) → KeepsId bytes words r i (run cs s) h
   unfolding KeepsId run
   keeps-id [] k q = tt
   keeps-id {r} {i} (c ∷ cs) {h = h} k q =
@@ -129,7 +129,7 @@ module _ (bytes words : ℕ) where
 
   -- ---- a list of calls
 
-  all-claim : (cs : List LentCall) {s : Stores} {h : History} → Stands bytes words s h → AllClaim bytes words (run cs s) s h
+  all-claim : (cs : List LentCall) {s : Stores} {h : History} → Holding bytes words s h → AllClaim bytes words (run cs s) s h
   unfolding AllClaim run
   all-claim [] k = stands-agree bytes words k
   all-claim (c ∷ cs) {h = h} k =

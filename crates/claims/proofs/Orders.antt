@@ -25,7 +25,7 @@ use Rattle.layout.specs.Sound.{sound}
 use Rattle.steps.specs.Steps.{tallyIn}
 use Rattle.steps.specs.Pack.{PackOut, packBy, packStep}
 use Rattle.steps.specs.Runs.{lentStep}
-use Rattle.claims.specs.Orders.{graphIn, tableBy, packTold, Tested, Ordered, Overflows}
+use Rattle.claims.specs.Orders.{graphIn, tableBy, packTold, Admitted, Ordered, Overflows}
 use Rattle.claims.proofs.Packs.{placed-laid}
 
 -- ---- what the orders come to
@@ -75,13 +75,13 @@ module _ (b w : List ℕ) (id : ℕ) (out work : List ℕ) where
     past4 : k ≡ number Refusal.NotClosed → ⊥
     past10 : k ≡ number Refusal.OutputShort → ⊥
 
-  tested : {k : ℕ} (u : Outcome) → Late k → Tells (testsOn u) k → Tested b w id out work × Tells (overflows u) k
-  tested u l (this h e) = absurd (l .past12 e)
-  tested u l (next h (this i e)) = absurd (l .past13 e)
-  tested u l (next h (next i (this j e))) = absurd (l .past9 e)
-  tested u l (next h (next i (next j (this m e)))) = absurd (l .past4 e)
-  tested u l (next h (next i (next j (next m (this n e))))) = absurd (l .past10 e)
-  tested u l (next h (next i (next j (next m (next n r))))) = (
+  admitted : {k : ℕ} (u : Outcome) → Late k → Tells (testsOn u) k → Admitted b w id out work × Tells (overflows u) k
+  admitted u l (this h e) = absurd (l .past12 e)
+  admitted u l (next h (this i e)) = absurd (l .past13 e)
+  admitted u l (next h (next i (this j e))) = absurd (l .past9 e)
+  admitted u l (next h (next i (next j (this m e)))) = absurd (l .past4 e)
+  admitted u l (next h (next i (next j (next m (this n e))))) = absurd (l .past10 e)
+  admitted u l (next h (next i (next j (next m (next n r))))) = (
     record {
       isSound = not-false (sound b w) h;
       memory = ltb-false _ _ i;
@@ -93,7 +93,7 @@ module _ (b w : List ℕ) (id : ℕ) (out work : List ℕ) where
   )
 
   -- where they passed, only the orders are left
-  left-tests : (u : Outcome) → Tested b w id out work → verdict (testsOn u) ≡ verdict (overflows u)
+  left-tests : (u : Outcome) → Admitted b w id out work → verdict (testsOn u) ≡ verdict (overflows u)
   unfolding verdict
   left-tests u t = rw (t .isSound, le-ltb (length work) _ (t .memory), eq-eqb (openDepth w) 0 (t .noneOpen), lt-leb _ id (t .known), le-ltb (length out) _ (t .room))
 
@@ -101,17 +101,17 @@ module _ (b w : List ℕ) (id : ℕ) (out work : List ℕ) where
 
   pub accepted-ordered : packTold b w id out work .number ≡ 0 → Ordered b w id out work
   unfolding lentStep verdict tableLength
-  accepted-ordered e = go (arranged g id) (seen-arranged g id) refl (tested (arranged g id) late (tells (arranged g id) (rw step-is at e)))
+  accepted-ordered e = go (arranged g id) (seen-arranged g id) refl (admitted (arranged g id) late (tells (arranged g id) (rw step-is at e)))
     where
       late : Late 0
       late = record { past12 = λ z. omega arith; past13 = λ z. omega arith; past9 = λ z. omega arith; past4 = λ z. omega arith; past10 = λ z. omega arith }
 
-      go : (u : Outcome) → Seen g (ordersOf g id) u → arranged g id ≡ u → Tested b w id out work × Tells (overflows u) 0 → Ordered b w id out work
+      go : (u : Outcome) → Seen g (ordersOf g id) u → arranged g id ≡ u → Admitted b w id out work × Tells (overflows u) 0 → Ordered b w id out work
       go (placed o) (fit c) f t =
           let l = placed-laid b w (t .0 .isSound) id o f in
           let v = left-tests (placed o) (t .0) in
           record {
-            tested = t .0;
+            admitted = t .0;
             order = o;
             chosen = c;
             told = rw (step-is, f, v, l .sum);
@@ -121,7 +121,7 @@ module _ (b w : List ℕ) (id : ℕ) (out work : List ℕ) where
       go (overflow v) (unfits n) f (t, this h z) = absurd (omega arith)
       go (overflow v) (unfits n) f (t, next h r) = absurd (true≢false h)
 
-  pub ordered-accepted : {o : List ℕ} → Tested b w id out work → FirstFit g o (ordersOf g id) → packTold b w id out work .number ≡ 0
+  pub ordered-accepted : {o : List ℕ} → Admitted b w id out work → FirstFit g o (ordersOf g id) → packTold b w id out work .number ≡ 0
   unfolding lentStep verdict
   ordered-accepted {o = o} t c = rw (step-is, chosen-arranged g id c, left-tests (placed o) t)
 
@@ -129,16 +129,16 @@ module _ (b w : List ℕ) (id : ℕ) (out work : List ℕ) where
 
   pub told-overflow : packTold b w id out work .number ≡ 11 → Overflows b w id out work (packTold b w id out work .overflow)
   unfolding lentStep verdict
-  told-overflow e = go (arranged g id) (seen-arranged g id) refl (tested (arranged g id) late (tells (arranged g id) (rw step-is at e)))
+  told-overflow e = go (arranged g id) (seen-arranged g id) refl (admitted (arranged g id) late (tells (arranged g id) (rw step-is at e)))
     where
       late : Late 11
       late = record { past12 = λ z. omega arith; past13 = λ z. omega arith; past9 = λ z. omega arith; past4 = λ z. omega arith; past10 = λ z. omega arith }
 
-      go : (u : Outcome) → Seen g (ordersOf g id) u → arranged g id ≡ u → Tested b w id out work × Tells (overflows u) 11
+      go : (u : Outcome) → Seen g (ordersOf g id) u → arranged g id ≡ u → Admitted b w id out work × Tells (overflows u) 11
           → Overflows b w id out work (toldByPack (packStep id b w out work .answer) .overflow)
       go (placed o) (fit c) f (t, none z) = absurd (omega arith)
-      go (overflow v) (unfits n) f t = rw (step-is, f, left-tests (overflow v) (t .0)) record { tested = t .0; unfits = n }
+      go (overflow v) (unfits n) f t = rw (step-is, f, left-tests (overflow v) (t .0)) record { admitted = t .0; unfits = n }
 
   pub overflow-told : (v : Overflow) → Overflows b w id out work v → packTold b w id out work ≡ refusal (Refusal.Overflow v) (tallyIn b w)
   unfolding lentStep verdict
-  overflow-told v o = rw (step-is, unfit-arranged g id (o .unfits), left-tests (overflow v) (o .tested))
+  overflow-told v o = rw (step-is, unfit-arranged g id (o .unfits), left-tests (overflow v) (o .admitted))

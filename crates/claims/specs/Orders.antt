@@ -31,7 +31,7 @@ module _ (b w : List ℕ) (id : ℕ) (out work : List ℕ) where
   packTold = lentStep (pack id out work) (stores b w) .told
 
   -- no test ranked before that of the orders applies
-  pub record Tested : Type 0 where
+  pub record Admitted : Type 0 where
     pub isSound : sound b w ≡ true
     pub memory : workNeed (objectLimit w) (linkLimit w) ≤ length work
     pub noneOpen : openDepth w ≡ 0
@@ -40,7 +40,7 @@ module _ (b w : List ℕ) (id : ℕ) (out work : List ℕ) where
 
   -- an accepted pack: the order chosen; its table in front of the output, and the table's length told; and what the table shows
   pub record Ordered : Type 0 where
-    pub tested : Tested
+    pub admitted : Admitted
     pub order : List ℕ
     pub chosen : FirstFit graphIn order (ordersOf graphIn id)
     pub told : packTold ≡ donePack (length (tableBy order)) (tallyIn b w)
@@ -49,5 +49,5 @@ module _ (b w : List ℕ) (id : ℕ) (out work : List ℕ) where
 
   -- a pack that tells 11, with link v
   pub record Overflows (v : Overflow) : Type 0 where
-    pub tested : Tested
+    pub admitted : Admitted
     pub unfits : NoneFits graphIn v (ordersOf graphIn id)

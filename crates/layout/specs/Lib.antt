@@ -6,3 +6,4 @@ pub mod Sound
 pub mod Decode
 pub mod Known
 pub mod Counted
+pub mod Links

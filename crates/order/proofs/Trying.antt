@@ -16,7 +16,7 @@ use Rattle.work.specs.declared.Areas.{Areas}
 use Rattle.order_graph.specs.Graph.{graphIn, graphOn}
 use Rattle.order_graph.proofs.Links.{front-kept, stands-kept}
 use Rattle.order_survey.specs.Survey.{Surveyed}
-use Rattle.order_place.specs.Run.{Starting, Ordered}
+use Rattle.order_place.specs.Run.{Starting, OrderFound}
 use Rattle.order_fit.specs.Fit.{placesFrom, look, Placing, PlacedAt}
 use Rattle.order_fit.specs.declared.Look.{Look}
 use Rattle.order.specs.Try.{Keyed, orderWith, Tried}
@@ -56,7 +56,7 @@ module _ {a : Areas} {n root : ℕ} {by : By} {w w₁ : List ℕ} (t : Surveyed 
         free = rw incoming-same (t .incoming root ∙ reached-rooted g root (t .falls) .root-free);
       }
 
-  module _ {r : ℕ} {w₂ : List ℕ} (o : Ordered a n root r w₁ w₂) where
+  module _ {r : ℕ} {w₂ : List ℕ} (o : OrderFound a n root r w₁ w₂) where
     graph₂ : graphOn a n w₂ ≡ g
     graph₂ = ap (graphIn a n) (front-kept (try-starting .graph) (o .kept) (omega arith)) ∙ graph₁
 

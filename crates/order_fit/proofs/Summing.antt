@@ -7,7 +7,7 @@ use lib.ListN.{length, getD, set, take, drop, drop-of-length-le}
 use Rattle.lists.proofs.Runs.{drop-first}
 use Rattle.regions.specs.Region.{Kept}
 use Rattle.regions.proofs.Laws.{region-length, region-at, region-in}
-use Rattle.regions.proofs.Bounds.{top-at}
+use Rattle.regions.proofs.Bounds.{ceiling-at}
 use Rattle.regions.proofs.Frame.{kept-all, kept-then, kept-set, kept-less, kept-above, kept-at}
 use Rattle.work.specs.declared.Areas.{Areas}
 use Rattle.work.specs.Views.{orderIn, placesIn}
@@ -23,7 +23,7 @@ module _ {a : Areas} {n r : ℕ} {w : List ℕ} (c : Placing a n r w) where
   pub node-read : (t : ℕ) → t < r → (getD w (a .order + t) 0 < n) × (getD w (a .order + t) 0 ≡ getD (orderIn a r w) t 0)
   node-read t h =
       let e = region-at (a .order) r w t h in
-      (omega (arith, e, top-at (orderIn a r w) t (omega (arith, order-long))), e)
+      (omega (arith, e, ceiling-at (orderIn a r w) t (omega (arith, order-long))), e)
 
 -- t nodes have their places, and the next begins at `at`
 pub record Summing (a : Areas) (n r t at : ℕ) (w₀ w : List ℕ) : Type 0 where

@@ -5,7 +5,7 @@ use mathlib.Core.List.{List}
 use native.Mathlib.Omega.{arith}
 use lib.ListN.{length, getD}
 use borrow.Author.Tests.{eq-eqb, ne-eqb}
-use Rattle.regions.specs.Region.{top, Kept}
+use Rattle.regions.specs.Region.{ceiling, Kept}
 use Rattle.regions.proofs.Laws.{region-length}
 use Rattle.regions.proofs.Frame.{kept-all, kept-then, kept-below}
 use Rattle.model.specs.Graph.{Graph}
@@ -39,13 +39,13 @@ pub record Going (a : Areas) (n k q : ℕ) (w₀ w : List ℕ) : Type 0 where
   pub kept : Kept (a .waiting) (a .incoming) w₀ w
   pub live : Live a n k w
   pub total : waiting (waitingIn a w) + k + q ≤ a .nodes
-  pub ids : top (orderIn a q w) ≤ n
+  pub ids : ceiling (orderIn a q w) ≤ n
   pub left :
       placing (keyIn a w₀) (graphOn a n w₀) (a .nodes) (runOf a 1 0 w₀)
       ≡ placing (keyIn a w₀) (graphOn a n w₀) (a .nodes - q) (runOf a k q w)
 
 pub going-none : {a : Areas} {n : ℕ} {w : List ℕ} → Live a n 1 w → Going a n 1 0 w w
-unfolding top
+unfolding ceiling
 going-none {a} s =
     let z : a .nodes - 0 ≡ a .nodes = omega arith in
     record { kept = kept-all; live = s; total = omega arith; ids = omega arith; left = rw z }

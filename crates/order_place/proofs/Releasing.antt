@@ -4,7 +4,7 @@ use Prim.Native.Nat.{ℕ, _+_, _≤_, _<_}
 use mathlib.Core.List.{List}
 use native.Mathlib.Omega.{arith}
 use lib.ListN.{length, take}
-use Rattle.regions.specs.Region.{top, Kept}
+use Rattle.regions.specs.Region.{ceiling, Kept}
 use Rattle.regions.proofs.Laws.{region-length}
 use Rattle.regions.proofs.Frame.{kept-all, kept-then}
 use Rattle.work.specs.declared.Areas.{Areas}
@@ -12,7 +12,7 @@ use Rattle.work.specs.Views.{waitingIn, readyIn}
 use Rattle.order_graph.specs.Graph.{graphOn, linksAfter, linkCount, AtLink, FieldOf}
 use Rattle.order_graph.proofs.Links.{links-in, links-next, links-none, front-kept, stands-kept}
 use Rattle.order_ready.specs.Ready.{Queue, released, waiting, queueOf, Queues}
-use Rattle.order_ready.proofs.Releasing.{released-same, released-top}
+use Rattle.order_ready.proofs.Releasing.{released-same, released-ceiling}
 use Rattle.order_place.specs.Run.{releasedAll, Live, ReleasedAll}
 
 -- t of the links of node i are taken off
@@ -21,7 +21,7 @@ pub record Unlinking (a : Areas) (n i t k k′ : ℕ) (w₀ w : List ℕ) : Type
   pub kept : Kept (a .waiting) (a .order) w₀ w
   pub left : releasedAll (graphOn a n w₀ .links i) (queueOf a k w₀) ≡ releasedAll (linksAfter a (take (a .keys) w₀) i t) (queueOf a k′ w)
   pub same : waiting (waitingIn a w) + k′ ≡ waiting (waitingIn a w₀) + k
-  pub ids : top (readyIn a k′ w) ≤ n
+  pub ids : ceiling (readyIn a k′ w) ≤ n
 
 module _ {a : Areas} {n i k : ℕ} {w₀ : List ℕ} (v : Live a n k w₀) (h : i < n) where
   abbrev front : List ℕ
@@ -51,7 +51,7 @@ module _ {a : Areas} {n i k : ℕ} {w₀ : List ℕ} (v : Live a n k w₀) (h : 
             kept = kept-then (s .kept) (z .kept);
             left = s .left ∙ rw (links-next a front i t u, releasedAll, ← e₀ .child-is, z .queue);
             same = omega (arith, released-same x (queueOf a k′ w), ap (λ (q : Queue). waiting (q .counts) + length (q .ready)) (z .queue));
-            ids = omega (arith, released-top x (queueOf a k′ w), ap (λ (q : Queue). top (q .ready)) (z .queue));
+            ids = omega (arith, released-ceiling x (queueOf a k′ w), ap (λ (q : Queue). ceiling (q .ready)) (z .queue));
           }
 
     pub unlinking-all : linkCount a front i ≤ t → ReleasedAll a n i k k′ w₀ w

@@ -9,14 +9,14 @@ use lib.ListN.{length, getD, set}
 use lib.Dec.{eqb}
 use borrow.Author.Tests.{eq-eqb}
 use Rattle.lists.specs.Lists.{pick}
-use Rattle.regions.specs.Region.{top, Kept, Copying}
+use Rattle.regions.specs.Region.{ceiling, Kept, Copying}
 use Rattle.regions.proofs.Laws.{region-length, region-over, region-push}
 use Rattle.regions.proofs.Frame.{kept-then, kept-set, kept-less}
 use Rattle.work.specs.declared.Areas.{Areas}
 use Rattle.work.specs.Views.{waitingIn, readyIn, incomingIn}
 use Rattle.order_graph.proofs.Links.{front-kept, stands-kept}
 use Rattle.order_ready.specs.Ready.{waiting}
-use Rattle.order_place.specs.Run.{Run, runOrder, Live, AllPlaced, Starting, Ordered}
+use Rattle.order_place.specs.Run.{Run, runOrder, Live, AllPlaced, Starting, OrderFound}
 use Rattle.order_place.proofs.Going.{keys-kept}
 
 at-most : (b : Bool) → pick b 0 1 ≤ 1
@@ -51,7 +51,7 @@ module _ {a : Areas} {n root : ℕ} {w w₁ : List ℕ} (s : Starting a n root w
   begun-counts = region-over (a .waiting) (a .nodes) w₁ (a .ready) root (omega arith) ∙ z .done
 
   pub start-live : Live a n 1 begun
-  unfolding top
+  unfolding ceiling
   start-live =
       let l = region-length (a .incoming) (a .nodes) w (omega arith) in
       record {
@@ -60,7 +60,7 @@ module _ {a : Areas} {n root : ℕ} {w w₁ : List ℕ} (s : Starting a n root w
         room = rw begun-counts (omega (arith, l, waiting-fewer (incomingIn a w) root (omega (arith, l)) (s .free)));
       }
 
-  pub start-ordered : {r : ℕ} {w′ : List ℕ} → AllPlaced a n r begun w′ → Ordered a n root r w w′
+  pub start-ordered : {r : ℕ} {w′ : List ℕ} → AllPlaced a n r begun w′ → OrderFound a n root r w w′
   unfolding runOrder
   start-ordered p =
       let keys = keys-kept (s .graph .apart) begun-kept in

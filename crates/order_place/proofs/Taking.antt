@@ -4,9 +4,9 @@ use Prim.Native.Nat.{ℕ, _+_, _-_, _<_}
 use mathlib.Core.List.{List, [], _∷_}
 use native.Mathlib.Omega.{arith}
 use lib.ListN.{take, drop}
-use Rattle.regions.specs.Region.{top}
+use Rattle.regions.specs.Region.{ceiling}
 use Rattle.regions.proofs.Laws.{region-length}
-use Rattle.regions.proofs.Bounds.{top-at, top-append, top-take, top-drop}
+use Rattle.regions.proofs.Bounds.{ceiling-at, ceiling-append, ceiling-take, ceiling-drop}
 use Rattle.regions.proofs.Frame.{kept-then, kept-less, kept-above}
 use Rattle.work.specs.declared.Areas.{Areas}
 use Rattle.work.specs.Views.{keyIn, readyIn, orderIn}
@@ -21,19 +21,19 @@ module _ {a : Areas} {n k q x i : ℕ} {w w₁ : List ℕ} (v : Live a n k w) (s
   pub took-id : i < n
   took-id =
       let l = region-length (a .ready) k w (omega arith) in
-      omega (arith, top-at ready x (omega arith))
+      omega (arith, ceiling-at ready x (omega arith))
 
   pub took-live : Live a n (k - 1) w₁
   took-live =
       record {
         graph = stands-kept (v .graph) (s .kept) (omega arith);
         ids =
-            omega (arith, ap (λ (u : Queue). top (u .ready)) (s .queue), top-append (take x ready) (drop (x + 1) ready), top-take x ready, top-drop (x + 1) ready);
+            omega (arith, ap (λ (u : Queue). ceiling (u .ready)) (s .queue), ceiling-append (take x ready) (drop (x + 1) ready), ceiling-take x ready, ceiling-drop (x + 1) ready);
         room = omega (arith, ap (λ (u : Queue). waiting (u .counts)) (s .queue));
       }
 
   pub took-places : {k′ : ℕ} {w₂ : List ℕ} → x ≡ leastAt (keyIn a w) ready → ReleasedAll a n i (k - 1) k′ w₁ w₂ → Places a n k q k′ w w₂
-  unfolding top
+  unfolding ceiling
   took-places {w₂ = w₂} e z =
       let o = kept-above (z .done .kept) (a .order) (q + 1) (omega arith) in
       record {
@@ -45,5 +45,5 @@ module _ {a : Areas} {n k q x i : ℕ} {w w₁ : List ℕ} (v : Live a n k w) (s
         };
         same = omega (arith, ap (λ (u : Queue). waiting (u .counts)) (s .queue));
         ids = z .ids;
-        order-ids = omega (arith, ap top (o ∙ s .order), top-append (orderIn a q w) (i ∷ []), took-id);
+        order-ids = omega (arith, ap ceiling (o ∙ s .order), ceiling-append (orderIn a q w) (i ∷ []), took-id);
       }

@@ -4,7 +4,7 @@ use mathlib.Core.Path.{_≡_}
 use mathlib.Core.List.{List, [], _∷_, _++_}
 use lib.ListN.{length, getD}
 use lib.Dec.{eqb}
-use Rattle.regions.specs.Region.{top, Kept}
+use Rattle.regions.specs.Region.{ceiling, Kept}
 use Rattle.lists.specs.Lists.{pick}
 use Rattle.model.specs.Object.{Link}
 use Rattle.model.specs.Graph.{Graph}
@@ -47,19 +47,19 @@ pub record Runs (a : Areas) (k q k′ q′ : ℕ) (f : Run → Run) (w w′ : Li
 -- the memory while k of n nodes are ready
 pub record Live (a : Areas) (n k : ℕ) (w : List ℕ) : Type 0 where
   pub graph : Stands a n w
-  pub ids : top (readyIn a k w) ≤ n
+  pub ids : ceiling (readyIn a k w) ≤ n
   pub room : waiting (waitingIn a w) + k ≤ a .nodes
 
 pub record ReleasedAll (a : Areas) (n i k k′ : ℕ) (w w′ : List ℕ) : Type 0 where
   pub done : Queues a k k′ (releasedAll (graphOn a n w .links i)) w w′
   pub same : waiting (waitingIn a w′) + k′ ≡ waiting (waitingIn a w) + k
-  pub ids : top (readyIn a k′ w′) ≤ n
+  pub ids : ceiling (readyIn a k′ w′) ≤ n
 
 pub record Places (a : Areas) (n k q k′ : ℕ) (w w′ : List ℕ) : Type 0 where
   pub done : Runs a k q k′ (q + 1) (placed (keyIn a w) (graphOn a n w)) w w′
   pub same : waiting (waitingIn a w′) + k′ + 1 ≡ waiting (waitingIn a w) + k
-  pub ids : top (readyIn a k′ w′) ≤ n
-  pub order-ids : top (orderIn a (q + 1) w′) ≤ max (top (orderIn a q w)) n
+  pub ids : ceiling (readyIn a k′ w′) ≤ n
+  pub order-ids : ceiling (orderIn a (q + 1) w′) ≤ max (ceiling (orderIn a q w)) n
 
 -- from the root alone, with fuel for every node
 unfoldable pub runOrder : (ℕ → ℕ) → Graph → ℕ → ℕ → List ℕ → List ℕ
@@ -68,7 +68,7 @@ runOrder key g fuel root counts = placing key g fuel (record { queue = record { 
 -- r nodes, all of the n
 pub record OrderIds (a : Areas) (n r : ℕ) (w : List ℕ) : Type 0 where
   pub few : r ≤ a .nodes
-  pub ids : top (orderIn a r w) ≤ n
+  pub ids : ceiling (orderIn a r w) ≤ n
 
 -- from one ready node on until none is
 pub record AllPlaced (a : Areas) (n r : ℕ) (w w′ : List ℕ) : Type 0 where
@@ -82,7 +82,7 @@ pub record Starting (a : Areas) (n root : ℕ) (w : List ℕ) : Type 0 where
   pub free : getD (incomingIn a w) root 0 ≡ 0
 
 -- the order by the keys, from the root on
-pub record Ordered (a : Areas) (n root r : ℕ) (w w′ : List ℕ) : Type 0 where
+pub record OrderFound (a : Areas) (n root r : ℕ) (w w′ : List ℕ) : Type 0 where
   pub kept : Kept (a .waiting) (a .incoming) w w′
   pub nodes : OrderIds a n r w′
   pub order : orderIn a r w′ ≡ runOrder (keyIn a w) (graphOn a n w) (a .nodes) root (incomingIn a w)

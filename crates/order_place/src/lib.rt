@@ -7,7 +7,7 @@ use order_ready::take_ready;
 use regions::copy;
 use work::Areas;
 ghost use Prim.Native.Nat.{_<_};
-ghost use Rattle.order_place.specs.Run.{Live, ReleasedAll, Places, AllPlaced, Starting, Ordered};
+ghost use Rattle.order_place.specs.Run.{Live, ReleasedAll, Places, AllPlaced, Starting, OrderFound};
 
 // Every link of node i, which is placed; the answer is how many are ready then.
 fn release_all(work: &mut [u64], a: Areas, n: usize, i: usize, k: usize) -> usize
@@ -52,7 +52,7 @@ fn place_rest(work: &mut [u64], a: Areas, n: usize) -> usize
 // The order of placing from the root; the answer is how many are placed. Each node waits for its incoming fields.
 pub fn place_all(work: &mut [u64], a: Areas, n: usize, root: usize) -> usize
     requires { ⌜ Starting a n root (now work) ⌝ }
-    ensures { λ r. ⌜ Ordered a n root r (now (work .entry)) (now (work .exit)) ⌝ }
+    ensures { λ r. ⌜ OrderFound a n root r (now (work .entry)) (now (work .exit)) ⌝ }
 {
     copy(work, a.incoming, a.waiting, a.nodes);
     let ready = a.ready;

@@ -7,7 +7,7 @@ use lib.ListN.{length, getD, drop, drop-of-length-le}
 use borrow.Author.Tests.{lt-ltb, le-ltb}
 use Rattle.lists.proofs.Runs.{drop-first}
 use Rattle.regions.proofs.Laws.{region-length, region-at}
-use Rattle.regions.proofs.Bounds.{top-at}
+use Rattle.regions.proofs.Bounds.{ceiling-at}
 use Rattle.work.specs.declared.Areas.{Areas}
 use Rattle.work.specs.Views.{keyIn, readyIn}
 use Rattle.order_ready.specs.Ready.{leastFrom, leastAt, Choosing}
@@ -53,7 +53,7 @@ module _ {a : Areas} {k : ℕ} {w : List ℕ} (s : Choosing a k w) where
     word-at = region-at (a .ready) k w i h
 
     pub ready-id : word < a .nodes
-    ready-id = omega (arith, word-at, top-at ready i (omega (arith, ready-long)))
+    ready-id = omega (arith, word-at, ceiling-at ready i (omega (arith, ready-long)))
 
     pub key-read : getD w (a .keys + word) 0 ≡ keyIn a w (getD ready i 0)
     key-read = region-at (a .keys) (a .nodes) w word ready-id ∙ ap (keyIn a w) word-at

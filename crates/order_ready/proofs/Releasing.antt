@@ -9,9 +9,9 @@ use lib.Seq.{set-getD}
 use lib.Dec.{eqb}
 use borrow.Author.Tests.{eq-eqb, ne-eqb}
 use Rattle.lists.specs.Lists.{pick}
-use Rattle.regions.specs.Region.{top, Kept}
+use Rattle.regions.specs.Region.{ceiling, Kept}
 use Rattle.regions.proofs.Laws.{region-at, region-in, region-under, region-over, region-push}
-use Rattle.regions.proofs.Bounds.{top-append}
+use Rattle.regions.proofs.Bounds.{ceiling-append}
 use Rattle.regions.proofs.Frame.{kept-all, kept-then, kept-set}
 use Rattle.work.specs.declared.Areas.{Areas}
 use Rattle.work.specs.Views.{waitingIn, readyIn}
@@ -48,12 +48,12 @@ module _ (c : ℕ) (s : Queue) where
       go true e = omega (arith, length-append (s .ready) (c ∷ []))
       go false e = omega arith
 
-  pub released-top : top (released c s .ready) ≤ max (top (s .ready)) (c + 1)
-  unfolding top
-  released-top = go (eqb (getD (s .counts) c 0) 1)
+  pub released-ceiling : ceiling (released c s .ready) ≤ max (ceiling (s .ready)) (c + 1)
+  unfolding ceiling
+  released-ceiling = go (eqb (getD (s .counts) c 0) 1)
     where
-      go : (b : Bool) → top (pick b (s .ready ++ (c ∷ [])) (s .ready)) ≤ max (top (s .ready)) (c + 1)
-      go true = omega (arith, top-append (s .ready) (c ∷ []))
+      go : (b : Bool) → ceiling (pick b (s .ready ++ (c ∷ [])) (s .ready)) ≤ max (ceiling (s .ready)) (c + 1)
+      go true = omega (arith, ceiling-append (s .ready) (c ∷ []))
       go false = omega arith
 
 -- ---- the stores of one link taken off

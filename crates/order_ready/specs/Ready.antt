@@ -4,7 +4,7 @@ use mathlib.Core.Path.{_≡_}
 use mathlib.Core.List.{List, [], _∷_, _++_}
 use lib.ListN.{length, getD, set, take, drop}
 use lib.Dec.{eqb, ltb}
-use Rattle.regions.specs.Region.{region, top, Kept}
+use Rattle.regions.specs.Region.{region, ceiling, Kept}
 use Rattle.lists.specs.Lists.{pick}
 use Rattle.work.specs.Areas.{Apart}
 use Rattle.work.specs.Views.{waitingIn, readyIn, orderIn}
@@ -68,7 +68,7 @@ pub record Choosing (a : Areas) (k : ℕ) (w : List ℕ) : Type 0 where
   pub long : a .end ≤ length w
   pub some : 0 < k
   pub few : k ≤ a .nodes
-  pub ids : top (readyIn a k w) ≤ a .nodes
+  pub ids : ceiling (readyIn a k w) ≤ a .nodes
 
 pub record Taking (a : Areas) (k q x : ℕ) (w : List ℕ) : Type 0 where
   pub apart : Apart a

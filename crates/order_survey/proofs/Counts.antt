@@ -4,9 +4,9 @@ use Prim.Native.Nat.{ℕ, _+_, _≤_, _<_}
 use mathlib.Core.List.{List}
 use native.Mathlib.Omega.{arith}
 use lib.ListN.{getD, set, take, length}
-use Rattle.regions.specs.Region.{top, Kept}
+use Rattle.regions.specs.Region.{ceiling, Kept}
 use Rattle.regions.proofs.Laws.{region-length, region-at, region-in}
-use Rattle.regions.proofs.Bounds.{top-at, top-bump}
+use Rattle.regions.proofs.Bounds.{ceiling-at, ceiling-bump}
 use Rattle.regions.proofs.Frame.{kept-all, kept-then, kept-set}
 use Rattle.work.specs.Views.{incomingIn}
 use Rattle.work.specs.declared.Areas.{Areas}
@@ -19,7 +19,7 @@ pub record Counts (a : Areas) (n i t : ℕ) (w₀ w : List ℕ) : Type 0 where
   pub some : t ≤ linkCount a (take (a .keys) w₀) i
   pub kept : Kept (a .incoming) (a .distances) w₀ w
   pub left : countedAll (graphOn a n w₀ .links i) (incomingIn a w₀) ≡ countedAll (linksAfter a (take (a .keys) w₀) i t) (incomingIn a w)
-  pub bound : top (incomingIn a w) ≤ top (incomingIn a w₀) + t
+  pub bound : ceiling (incomingIn a w) ≤ ceiling (incomingIn a w₀) + t
 
 module _ {a : Areas} {n i : ℕ} {w₀ : List ℕ} (s : Counting a n i w₀) where
   pub counts-none : Counts a n i 0 w₀ w₀
@@ -33,7 +33,7 @@ module _ {a : Areas} {n i : ℕ} {w₀ : List ℕ} (s : Counting a n i w₀) whe
     pub counts-room : (x : ℕ) → x < n → t < linkCount a (take (a .keys) w₀) i → getD w (a .incoming + x) 0 < farAway
     counts-room x b h =
         let e : length (incomingIn a w) ≡ a .nodes = region-length (a .incoming) (a .nodes) w (omega arith) in
-        omega (arith, s .node .graph .tidy .node i (s .node .inside) .few, region-at (a .incoming) (a .nodes) w x (omega arith), top-at (incomingIn a w) x (omega arith))
+        omega (arith, s .node .graph .tidy .node i (s .node .inside) .few, region-at (a .incoming) (a .nodes) w x (omega arith), ceiling-at (incomingIn a w) x (omega arith))
 
     pub counts-next : {at width x : ℕ} → FieldOf a n (take (a .keys) w) i t at width x → t < linkCount a (take (a .keys) w₀) i
         → Counts a n i (t + 1) w₀ (set w (a .incoming + x) (getD w (a .incoming + x) 0 + 1))
@@ -46,7 +46,7 @@ module _ {a : Areas} {n i : ℕ} {w₀ : List ℕ} (s : Counting a n i w₀) whe
           some = omega arith;
           kept = kept-then (f .kept) (kept-set (a .incoming) (a .distances) w (a .incoming + x) _ (omega arith) (omega arith));
           left = f .left ∙ rw (links-next a (take (a .keys) w₀) i t h, countedAll, ← e₀ .child-is, z);
-          bound = rw z (omega (arith, top-bump (incomingIn a w) x));
+          bound = rw z (omega (arith, ceiling-bump (incomingIn a w) x));
         })
 
     pub counts-all : linkCount a (take (a .keys) w₀) i ≤ t → CountedAll a n i w₀ w

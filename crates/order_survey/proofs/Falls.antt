@@ -7,9 +7,9 @@ use lib.ListN.{getD, set, take, replicate}
 use lib.Dec.{eqb}
 use borrow.Author.Tests.{eq-eqb, ne-eqb}
 use Rattle.lists.specs.Lists.{pick}
-use Rattle.regions.specs.Region.{top, Kept, Filling}
+use Rattle.regions.specs.Region.{ceiling, Kept, Filling}
 use Rattle.regions.proofs.Laws.{region-at, region-in, region-under, region-push}
-use Rattle.regions.proofs.Bounds.{top-set, top-append, top-replicate}
+use Rattle.regions.proofs.Bounds.{ceiling-set, ceiling-append, ceiling-replicate}
 use Rattle.regions.proofs.Frame.{kept-all, kept-then, kept-set, kept-less, kept-below}
 use Rattle.model.specs.Graph.{Graph}
 use Rattle.work.specs.Views.{lineIn, incomingIn}
@@ -23,8 +23,8 @@ pub record Falls (a : Areas) (n root i r : ℕ) (w₀ w : List ℕ) : Type 0 whe
   pub room : r + i ≤ root + 1
   pub kept : Kept (a .line) (a .distances) w₀ w
   pub left : lined (graphOn a n w₀) (root + 1) (linedOf a 0 w₀) ≡ lined (graphOn a n w₀) i (linedOf a r w)
-  pub ids : top (lineIn a r w) ≤ n
-  pub small : top (incomingIn a w) + i * mostLinks ≤ top (incomingIn a w₀) + (root + 1) * mostLinks
+  pub ids : ceiling (lineIn a r w) ≤ n
+  pub small : ceiling (incomingIn a w) + i * mostLinks ≤ ceiling (incomingIn a w₀) + (root + 1) * mostLinks
 
 lined-one : (g : Graph) (i : ℕ) (s : Lined) → 0 < i → lined g i s ≡ lined g (i - 1) (pick (eqb (getD (s .incoming) (i - 1) 0) 0) s (joined g (i - 1) s))
 unfolding lined
@@ -32,7 +32,7 @@ lined-one g i s h = let e : i ≡ suc (i - 1) = omega arith in rw (e, lined, ←
 
 module _ {a : Areas} {n root : ℕ} {w₀ : List ℕ} (s : Lining a n root w₀) where
   pub falls-none : Falls a n root (root + 1) 0 w₀ w₀
-  unfolding top
+  unfolding ceiling
   falls-none = record { room = omega arith; kept = kept-all; left = refl; ids = omega arith; small = omega arith }
 
   module _ {i r : ℕ} {w : List ℕ} (f : Falls a n root i r w₀ w) where
@@ -75,7 +75,7 @@ module _ {a : Areas} {n root : ℕ} {w₀ : List ℕ} (s : Lining a n root w₀)
           }
 
       pub falls-next : {w′ : List ℕ} → CountedAll a n (i - 1) stored w′ → (getD w (a .incoming + (i - 1)) 0 ≡ 0 → ⊥) → Falls a n root (i - 1) (r + 1) w₀ w′
-      unfolding top
+      unfolding ceiling
       falls-next {w′} u z =
           let line : lineIn a (r + 1) w′ ≡ lineIn a r w ++ ((i - 1) ∷ []) = kept-below (u .kept) (a .line) (r + 1) (omega arith) ∙ pushed in
           let counts : incomingIn a w′ ≡ countedAll (graphOn a n w₀ .links (i - 1)) (incomingIn a w) = u .incoming ∙ rw (front, same-counts) in
@@ -83,8 +83,8 @@ module _ {a : Areas} {n root : ℕ} {w₀ : List ℕ} (s : Lining a n root w₀)
             room = omega arith;
             kept = kept-then kept-stored (kept-less (u .kept) (a .line) (a .distances) (omega arith) (omega arith));
             left = f .left ∙ lined-one _ i (linedOf a r w) h ∙ rw (ne-eqb _ _ (λ q. z (read ∙ q)), line, counts);
-            ids = rw line (omega (arith, top-append (lineIn a r w) ((i - 1) ∷ [])));
-            small = omega (arith, ap top same-counts);
+            ids = rw line (omega (arith, ceiling-append (lineIn a r w) ((i - 1) ∷ [])));
+            small = omega (arith, ap ceiling same-counts);
           }
 
     pub falls-all : i ≤ 0 → LineFound a n root r (linedOf a 0 w₀) w₀ w
@@ -111,7 +111,7 @@ module _ {a : Areas} {n root : ℕ} {w w₁ : List ℕ} (s : AtNode a n root w) 
   begun-lining =
       record {
         node = record { graph = stands-kept (s .graph) kept-begun (omega arith); inside = s .inside };
-        small = rw counts-begun (omega (arith, top-set (replicate (a .nodes) 0) root 1, top-replicate (a .nodes) 0));
+        small = rw counts-begun (omega (arith, ceiling-set (replicate (a .nodes) 0) root 1, ceiling-replicate (a .nodes) 0));
       }
 
   pub begun-found : {r : ℕ} {w′ : List ℕ} → LineFound a n root r (linedOf a 0 begun) begun w′ → LineFound a n root r (unlined (a .nodes) root) w w′

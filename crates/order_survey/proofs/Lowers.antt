@@ -4,9 +4,9 @@ use Prim.Native.Nat.{ℕ, zero, suc, _+_, _≤_, _<_, min}
 use mathlib.Core.List.{List, [], _∷_}
 use native.Mathlib.Omega.{arith}
 use lib.ListN.{getD, set, take, drop, length, replicate}
-use Rattle.regions.specs.Region.{top, Kept, Filling}
+use Rattle.regions.specs.Region.{ceiling, Kept, Filling}
 use Rattle.regions.proofs.Laws.{region-length, region-at, region-in}
-use Rattle.regions.proofs.Bounds.{top-at, top-least, top-set, top-replicate}
+use Rattle.regions.proofs.Bounds.{ceiling-at, ceiling-least, ceiling-set, ceiling-replicate}
 use Rattle.regions.proofs.Frame.{kept-all, kept-then, kept-set, kept-less, kept-below}
 use Rattle.model.specs.Distance.{weight, relax, relaxAll, distancesBy}
 use Rattle.work.specs.Views.{lineIn, distancesIn}
@@ -29,7 +29,7 @@ pub record Lowers (a : Areas) (n i d t : ℕ) (w₀ w : List ℕ) : Type 0 where
   pub left :
       relax farAway (weight (graphOn a n w₀)) d (graphOn a n w₀ .links i) (distancesIn a w₀)
       ≡ relax farAway (weight (graphOn a n w₀)) d (linksAfter a (take (a .keys) w₀) i t) (distancesIn a w)
-  pub bound : top (distancesIn a w) ≤ top (distancesIn a w₀)
+  pub bound : ceiling (distancesIn a w) ≤ ceiling (distancesIn a w₀)
 
 module _ {a : Areas} {n i d : ℕ} {w₀ : List ℕ} (s : Lowering a n i d w₀) where
   pub lowers-none : Lowers a n i d 0 w₀ w₀
@@ -53,7 +53,7 @@ module _ {a : Areas} {n i d : ℕ} {w₀ : List ℕ} (s : Lowering a n i d w₀)
           some = omega arith;
           kept = kept-then (f .kept) (kept-set (a .distances) (a .end) w (a .distances + x) v (omega arith) (omega arith));
           left = f .left ∙ rw (links-next a (take (a .keys) w₀) i t h, relax, ← e₀ .weight-is, ← e₀ .child-is, z, far);
-          bound = rw (z, near) (omega (arith, top-least ds x (d + y)));
+          bound = rw (z, near) (omega (arith, ceiling-least ds x (d + y)));
         }
 
     pub lowers-all : linkCount a (take (a .keys) w₀) i ≤ t → Lowered a n i d w₀ w
@@ -73,10 +73,10 @@ pub record Follows (a : Areas) (n r t : ℕ) (w₀ w : List ℕ) : Type 0 where
   pub left :
       relaxAll farAway (weight (graphOn a n w₀)) (graphOn a n w₀) (lineIn a r w₀) (distancesIn a w₀)
       ≡ relaxAll farAway (weight (graphOn a n w₀)) (graphOn a n w₀) (drop t (lineIn a r w₀)) (distancesIn a w)
-  pub near : top (distancesIn a w) ≤ farAway + 1
+  pub near : ceiling (distancesIn a w) ≤ farAway + 1
 
 module _ {a : Areas} {n r : ℕ} {w₀ : List ℕ} (s : Along a n r w₀) where
-  pub follows-none : top (distancesIn a w₀) ≤ farAway + 1 → Follows a n r 0 w₀ w₀
+  pub follows-none : ceiling (distancesIn a w₀) ≤ farAway + 1 → Follows a n r 0 w₀ w₀
   follows-none h = record { some = omega arith; kept = kept-all; left = refl; near = h }
 
   module _ {t : ℕ} {w : List ℕ} (f : Follows a n r t w₀ w) where
@@ -103,7 +103,7 @@ module _ {a : Areas} {n r : ℕ} {w₀ : List ℕ} (s : Along a n r w₀) where
                   long,
                   follows-inside,
                   region-at (a .distances) (a .nodes) w node (omega (arith, follows-inside)),
-                  top-at (distancesIn a w) node (omega (arith, long, follows-inside)),
+                  ceiling-at (distancesIn a w) node (omega (arith, long, follows-inside)),
                 );
           }
 
@@ -143,8 +143,8 @@ module _ {a : Areas} {n root r : ℕ} {w w₁ : List ℕ} (s : Along a n r w) (h
   pub begun-along : Along a n r begun
   begun-along = along-kept s kept-begun
 
-  pub begun-near : top (distancesIn a begun) ≤ farAway + 1
-  begun-near = rw distances-begun (omega (arith, top-set (replicate (a .nodes) farAway) root 0, top-replicate (a .nodes) farAway))
+  pub begun-near : ceiling (distancesIn a begun) ≤ farAway + 1
+  begun-near = rw distances-begun (omega (arith, ceiling-set (replicate (a .nodes) farAway) root 0, ceiling-replicate (a .nodes) farAway))
 
   pub begun-set : {w′ : List ℕ} → LoweredAlong a n r begun w′ → DistancesSet a n root r w w′
   unfolding distancesBy

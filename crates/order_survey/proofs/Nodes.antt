@@ -8,7 +8,7 @@ use lib.ListN.{getD, drop, length, drop-of-length-le}
 use lib.Seq.{drop-cons}
 use Rattle.regions.specs.Region.{Kept}
 use Rattle.regions.proofs.Laws.{region-length, region-at}
-use Rattle.regions.proofs.Bounds.{top-at}
+use Rattle.regions.proofs.Bounds.{ceiling-at}
 use Rattle.regions.proofs.Frame.{kept-below}
 use Rattle.work.specs.Views.{lineIn}
 use Rattle.work.specs.declared.Areas.{Areas}
@@ -31,7 +31,7 @@ module _ {a : Areas} {n r t : ℕ} {w : List ℕ} (s : Along a n r w) (h : t < r
   line-read = region-at (a .line) r w t h
 
   pub line-inside : getD w (a .line + t) 0 < n
-  line-inside = omega (arith, line-read, top-at (lineIn a r w) t (omega (arith, line-long)))
+  line-inside = omega (arith, line-read, ceiling-at (lineIn a r w) t (omega (arith, line-long)))
 
   pub line-left : drop t (lineIn a r w) ≡ getD w (a .line + t) 0 ∷ drop (t + 1) (lineIn a r w)
   line-left = rw (line-read, add-one) (drop-cons (lineIn a r w) t 0 (omega (arith, line-long)))

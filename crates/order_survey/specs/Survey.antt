@@ -5,7 +5,7 @@ use mathlib.Core.Path.{_≡_}
 use mathlib.Core.List.{List, [], _∷_, _++_}
 use lib.ListN.{getD, set, replicate}
 use lib.Dec.{eqb}
-use Rattle.regions.specs.Region.{top, Kept}
+use Rattle.regions.specs.Region.{ceiling, Kept}
 use Rattle.lists.specs.Lists.{pick}
 use Rattle.model.specs.Object.{Link}
 use Rattle.model.specs.Bag.{count}
@@ -51,23 +51,23 @@ farAway = 9223372036854775808
 -- the fields of node i
 pub record Counting (a : Areas) (n i : ℕ) (w : List ℕ) : Type 0 where
   pub node : AtNode a n i w
-  pub small : top (incomingIn a w) + mostLinks ≤ farAway
+  pub small : ceiling (incomingIn a w) + mostLinks ≤ farAway
 
 pub record CountedAll (a : Areas) (n i : ℕ) (w w′ : List ℕ) : Type 0 where
   pub kept : Kept (a .incoming) (a .distances) w w′
   pub incoming : incomingIn a w′ ≡ countedAll (graphOn a n w .links i) (incomingIn a w)
-  pub bound : top (incomingIn a w′) ≤ top (incomingIn a w) + mostLinks
+  pub bound : ceiling (incomingIn a w′) ≤ ceiling (incomingIn a w) + mostLinks
 
 -- counts that leave room for those of all nodes
 pub record Lining (a : Areas) (n root : ℕ) (w : List ℕ) : Type 0 where
   pub node : AtNode a n root w
-  pub small : top (incomingIn a w) + mostNodes * mostLinks ≤ farAway
+  pub small : ceiling (incomingIn a w) + mostNodes * mostLinks ≤ farAway
 
 -- r nodes stand in the line, which was found from s
 pub record LineFound (a : Areas) (n root r : ℕ) (s : Lined) (w w′ : List ℕ) : Type 0 where
   pub kept : Kept (a .line) (a .distances) w w′
   pub few : r ≤ a .nodes
-  pub ids : top (lineIn a r w′) ≤ n
+  pub ids : ceiling (lineIn a r w′) ≤ n
   pub found : linedOf a r w′ ≡ lined (graphOn a n w) (root + 1) s
 
 -- the links of node i, whose distance is d, taken up in the distances
@@ -78,13 +78,13 @@ pub record Lowering (a : Areas) (n i d : ℕ) (w : List ℕ) : Type 0 where
 pub record Lowered (a : Areas) (n i d : ℕ) (w w′ : List ℕ) : Type 0 where
   pub kept : Kept (a .distances) (a .end) w w′
   pub distances : distancesIn a w′ ≡ relax farAway (weight (graphOn a n w)) d (graphOn a n w .links i) (distancesIn a w)
-  pub bound : top (distancesIn a w′) ≤ top (distancesIn a w)
+  pub bound : ceiling (distancesIn a w′) ≤ ceiling (distancesIn a w)
 
 -- along a line of r nodes
 pub record Along (a : Areas) (n r : ℕ) (w : List ℕ) : Type 0 where
   pub graph : Stands a n w
   pub few : r ≤ a .nodes
-  pub ids : top (lineIn a r w) ≤ n
+  pub ids : ceiling (lineIn a r w) ≤ n
 
 pub record LoweredAlong (a : Areas) (n r : ℕ) (w w′ : List ℕ) : Type 0 where
   pub kept : Kept (a .distances) (a .end) w w′

@@ -8,7 +8,7 @@ use work::Areas;
 ghost use mathlib.Core.Path.{_≡_};
 ghost use Prim.Native.Nat.{_+_, _≤_, _<_, min};
 ghost use Rattle.lists.specs.Lists.{total};
-ghost use Rattle.regions.specs.Region.{top};
+ghost use Rattle.regions.specs.Region.{ceiling};
 ghost use Rattle.model.specs.Graph.{Acyclic};
 ghost use Rattle.work.specs.Views.{lineIn, distancesIn};
 ghost use Rattle.order_graph.specs.Graph.{graphOn, AtNode};
@@ -99,7 +99,7 @@ fn set_distances(work: &mut [u64], a: Areas, n: usize, root: usize, r: usize)
 
 // Each node of the line in turn lowers its children's distances.
 fn lower_along(work: &mut [u64], a: Areas, n: usize, r: usize)
-    requires { ⌜ Along a n r (now work) × (top (distancesIn a (now work)) ≤ farAway + 1) ⌝ }
+    requires { ⌜ Along a n r (now work) × (ceiling (distancesIn a (now work)) ≤ farAway + 1) ⌝ }
     ensures { λ _. ⌜ LoweredAlong a n r (now (work .entry)) (now (work .exit)) ⌝ }
 {
     let mut t = 0;

@@ -32,11 +32,11 @@ use Rattle.order_graph.specs.Graph.{graphOn, AtNode}
 use Rattle.order_survey.specs.Survey.{Measured}
 use Rattle.order_fit.specs.declared.Look.{Look}
 use Rattle.order_fit.specs.declared.Look.the-variants.{Fits, Over}
-use Rattle.pack_copy.specs.Copy.{AreasFor, Standing, Copying, Copied}
+use Rattle.pack_copy.specs.Copy.{AreasFor, Standing, Copyable, Copied}
 use Rattle.pack_copy.proofs.CopiedGraph.{graph-copied}
 use Rattle.pack_copy.proofs.Standing.{standing-kept}
 use Rattle.pack_lay.specs.Lay.{Laying, Laid, lookIn}
-use Rattle.pack.specs.Packable.{Packable, Packed}
+use Rattle.pack.specs.Packable.{Packable, Answered}
 
 -- ---- what a look at the orders says of the outcome
 
@@ -57,7 +57,7 @@ module _ {b w : List ℕ} {s : State} {t : Tally} {a : Areas} {root : ℕ} {m : 
   abbrev g : Graph
   g = graphOf (decode b w .closed)
 
-  pub pack-copying : Copying w s a m
+  pub pack-copying : Copyable w s a m
   pack-copying = record { read = words-read (c .read); areas = c .areas; long = c .long }
 
   module _ {m₁ : List ℕ} (q : Copied w s a m m₁) where
@@ -84,7 +84,7 @@ module _ {b w : List ℕ} {s : State} {t : Tally} {a : Areas} {root : ℕ} {m : 
       }
 
       module _ (out : List ℕ) where
-        pub pack-short : length out < n → Packed b w a root (Refused Refusal.OutputShort t) out out m m₂
+        pub pack-short : length out < n → Answered b w a root (Refused Refusal.OutputShort t) out out m m₂
         pack-short h = record { kept = kept; told = rw (c .tally) (short-told b w (tableLength g root) out m (arranged g root) (omega (arith, length-is))) }
 
         module _ (h : n ≤ length out) where
@@ -95,13 +95,13 @@ module _ {b w : List ℕ} {s : State} {t : Tally} {a : Areas} {root : ℕ} {m : 
             kept-all : Kept 0 (a .end) m m₃
             kept-all = kept-then kept (kept-less (l .kept) 0 (a .end) (omega arith) (omega arith))
 
-            pub pack-fits : r ≡ Fits → Packed b w a root (Done n t) out out′ m m₃
+            pub pack-fits : r ≡ Fits → Answered b w a root (Done n t) out out′ m m₃
             pack-fits e = record {
               kept = kept-all;
               told = rw (c .tally, l .written, length-is) (done-told b w (tableLength g root) out m (arranged g root) room (sym e ∙ l .told));
             }
 
-            pub pack-over : {o : Overflow} → r ≡ Over o → Packed b w a root (Refused (Refusal.Overflow o) t) out out′ m m₃
+            pub pack-over : {o : Overflow} → r ≡ Over o → Answered b w a root (Refused (Refusal.Overflow o) t) out out′ m m₃
             pack-over e = record {
               kept = kept-all;
               told = rw (c .tally, l .written) (unfit-told b w (tableLength g root) out m (arranged g root) room (sym e ∙ l .told));
@@ -124,6 +124,6 @@ module _ {b w : List ℕ} {s : State} {t : Tally} {a : Areas} (h : Held b w s t)
       let z : 0 + n ≡ n = omega arith in
       q ∙ rw (size, length-replicate {A = ℕ} n 0, z, rw size at (k .back))
 
-  pub pack-done : {r : Packing} {id : ℕ} {out out′ m m′ m″ : List ℕ} → a .end ≤ length m → t .depth ≤ 0 → id < t .objects → Packed b w a id r out out′ m m′
+  pub pack-done : {r : Packing} {id : ℕ} {out out′ m m′ m″ : List ℕ} → a .end ≤ length m → t .depth ≤ 0 → id < t .objects → Answered b w a id r out out′ m m′
       → m″ ≡ over 0 (replicate (a .end) 0) m′ → packed r out′ m″ ≡ packStep id b w out m
   pack-done {id = id} {out = out} {m = m} long none known p q = rw (cleared-again (p .kept) q) (p .told) ∙ pack-left h id out m (rw e at long) none known

@@ -26,7 +26,7 @@ pub record Packable (b w : List ℕ) (s : State) (t : Tally) (a : Areas) (root :
   pub long : a .end ≤ length m
 
 -- it told r by the tests left, and will have done what they ask once the needed work memory is cleared
-pub record Packed (b w : List ℕ) (a : Areas) (root : ℕ) (r : Packing) (out out′ m m′ : List ℕ) : Type 0 where
+pub record Answered (b w : List ℕ) (a : Areas) (root : ℕ) (r : Packing) (out out′ m m′ : List ℕ) : Type 0 where
   pub kept : Kept 0 (a .end) m m′
   pub told :
       let g = graphOf (decode b w .closed) in

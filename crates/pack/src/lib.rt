@@ -19,7 +19,7 @@ use work::clear;
 ghost use mathlib.Core.Path.{_≡_};
 ghost use mathlib.Core.Bool.{true};
 ghost use Rattle.layout.specs.Sound.{sound};
-ghost use Rattle.pack.specs.Packable.{Packable, Packed};
+ghost use Rattle.pack.specs.Packable.{Packable, Answered};
 ghost use Rattle.model.specs.Told.{toldByPack};
 ghost use Rattle.steps.specs.Pack.{packed, packStep};
 ghost use Rattle.steps.specs.Runs.{pack, stores, packLeft, lentStep};
@@ -36,7 +36,7 @@ fn pack_graph(
     work: &mut [u64],
 ) -> Packing
     requires { ⌜ Packable (now store) (now records) s t a (id .0) (now work) ⌝ }
-    ensures { λ r. ⌜ Packed (now (store .entry)) (now (records .entry)) a (id .0) r (now (out .entry)) (now (out .exit)) (now (work .entry)) (now (work .exit)) ⌝ }
+    ensures { λ r. ⌜ Answered (now (store .entry)) (now (records .entry)) a (id .0) r (now (out .entry)) (now (out .exit)) (now (work .entry)) (now (work .exit)) ⌝ }
 {
     copy_graph(records, s, a, work);
     let root = id.0 as usize;

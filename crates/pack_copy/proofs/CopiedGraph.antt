@@ -23,7 +23,7 @@ use Rattle.steps.proofs.Tables.{forAll-at}
 use Rattle.work.specs.Areas.{Apart}
 use Rattle.work.specs.declared.Areas.{Areas}
 use Rattle.order_graph.specs.Graph.{linksFrom, linksAt, linkCount, graphIn, graphOn, TidyNode, Stands}
-use Rattle.pack_copy.specs.Copy.{AreasFor, Standing, NodeOf, NodesIn, LinksIn, NodesCopied, LinksCopied, Copying, Copied}
+use Rattle.pack_copy.specs.Copy.{AreasFor, Standing, NodeOf, NodesIn, LinksIn, NodesCopied, LinksCopied, Copyable, Copied}
 use Rattle.steps.proofs.Tallies.{closed-at}
 use Rattle.pack_copy.proofs.ClosedObjects.{entries, closed-past, links-region, fields-right, sound-acyclic}
 
@@ -118,7 +118,7 @@ graph-copied r f long c =
     rw (r .closedIs) (graph-stands (sound-known r) f long (c .kept) (rw (r .closedIs) at (c .nodes)) (rw (r .linksIs) at (c .links)))
 
 -- both parts
-pub all-copied : {a : Areas} {w m m₁ m₂ : List ℕ} {s : State} → Copying w s a m → NodesCopied a (s .closed) w m m₁
+pub all-copied : {a : Areas} {w m m₁ m₂ : List ℕ} {s : State} → Copyable w s a m → NodesCopied a (s .closed) w m m₁
     → LinksCopied a (s .links * linkWords) w m₁ m₂ → Copied w s a m m₂
 all-copied {a} {w} {m} {m₁} {m₂} {s} c ns ls = record {
   kept = kept-then (kept-less (ns .kept) 0 (a .keys) (omega arith) (omega arith)) (kept-less (ls .kept) 0 (a .keys) (omega arith) (omega arith));

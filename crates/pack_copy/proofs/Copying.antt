@@ -16,7 +16,7 @@ use Rattle.layout.specs.declared.state.State.{State}
 use Rattle.steps.proofs.Tables.{below-more}
 use Rattle.work.specs.Areas.{Apart}
 use Rattle.work.specs.declared.Areas.{Areas}
-use Rattle.pack_copy.specs.Copy.{Copying, NodeOf, NodesCopied, LinksCopied}
+use Rattle.pack_copy.specs.Copy.{Copyable, NodeOf, NodesCopied, LinksCopied}
 
 module _ {a : Areas} {w m : List ℕ} where
   pub nodes-none : NodesCopied a 0 w m m
@@ -70,7 +70,7 @@ module _ (a : Areas) (n size first count : ℕ) (m : List ℕ) where
       node-count : getD node-set (a .counts + n) 0 ≡ count
       node-count = getD-set-same (set (set m n size) (a .firsts + n) first) (a .counts + n) count 0 (simp length-set (omega arith))
 
-module _ {a : Areas} {s : State} {w m₀ : List ℕ} (c : Copying w s a m₀) where
+module _ {a : Areas} {s : State} {w m₀ : List ℕ} (c : Copyable w s a m₀) where
   node-in : {n : ℕ} → n < s .closed → n < a .nodes
   node-in h = omega (arith, ap (λ (x : State). x .objects) (c .read .is), c .areas .nodes, c .read .bounds .closed)
 

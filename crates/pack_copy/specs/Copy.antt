@@ -28,7 +28,7 @@ pub record Standing (b w : List ℕ) (a : Areas) (n : ℕ) (m : List ℕ) : Type
   pub falls : Acyclic (graphOn a n m)
 
 -- what the copy asks, of the record store alone
-pub record Copying (w : List ℕ) (s : State) (a : Areas) (m : List ℕ) : Type 0 where
+pub record Copyable (w : List ℕ) (s : State) (a : Areas) (m : List ℕ) : Type 0 where
   pub read : WordsRead w s
   pub areas : AreasFor w a
   pub long : a .end ≤ length m

@@ -7,11 +7,11 @@ use model::LINK_WORDS;
 use work::Areas;
 ghost use Prim.Native.Nat.{_*_};
 ghost use Rattle.layout.specs.Words.{linkWords};
-ghost use Rattle.pack_copy.specs.Copy.{Copying, Copied, NodesCopied, LinksCopied};
+ghost use Rattle.pack_copy.specs.Copy.{Copyable, Copied, NodesCopied, LinksCopied};
 
 // Each closed object's size, first link and link count.
 fn copy_nodes(records: &[u32], s: State, a: Areas, work: &mut [u64])
-    requires { ⌜ Copying (now records) s a (now work) ⌝ }
+    requires { ⌜ Copyable (now records) s a (now work) ⌝ }
     ensures { λ _. ⌜ NodesCopied a (s .closed) (now (records .entry)) (now (work .entry)) (now (work .exit)) ⌝ }
 {
     let closed = s.closed;
@@ -30,7 +30,7 @@ fn copy_nodes(records: &[u32], s: State, a: Areas, work: &mut [u64])
 
 // The links' records, all of them, behind the nodes.
 fn copy_links(records: &[u32], s: State, a: Areas, work: &mut [u64])
-    requires { ⌜ Copying (now records) s a (now work) ⌝ }
+    requires { ⌜ Copyable (now records) s a (now work) ⌝ }
     ensures { λ _. ⌜ LinksCopied a (s .links * linkWords) (now (records .entry)) (now (work .entry)) (now (work .exit)) ⌝ }
 {
     let base = LINKS_AT + s.objects * 2;
@@ -45,7 +45,7 @@ fn copy_links(records: &[u32], s: State, a: Areas, work: &mut [u64])
 
 // The graph in the first words; what stood there plays no part.
 pub fn copy_graph(records: &[u32], s: State, a: Areas, work: &mut [u64])
-    requires { ⌜ Copying (now records) s a (now work) ⌝ }
+    requires { ⌜ Copyable (now records) s a (now work) ⌝ }
     ensures { λ _. ⌜ Copied (now (records .entry)) s a (now (work .entry)) (now (work .exit)) ⌝ }
 {
     copy_nodes(records, s, a, work);

@@ -1,54 +1,54 @@
--- Laws of `top`.
+-- Laws of `ceiling`.
 use mathlib.Core.Path.{_≡_}
 use Prim.Native.Nat.{ℕ, zero, suc, _+_, _≤_, _<_, max, min}
 use mathlib.Core.List.{List, [], _∷_, _++_}
 use native.Mathlib.Omega.{arith}
 use lib.ListN.{length, getD, set, take, drop, replicate}
-use Rattle.regions.specs.Region.{top}
+use Rattle.regions.specs.Region.{ceiling}
 
-pub top-at : (l : List ℕ) (i : ℕ) → i < length l → getD l i 0 < top l
-unfolding top
-top-at [] i h = omega arith
-top-at (x ∷ l) zero h = omega arith
-top-at (x ∷ l) (suc i) h = omega (arith, top-at l i (omega arith))
+pub ceiling-at : (l : List ℕ) (i : ℕ) → i < length l → getD l i 0 < ceiling l
+unfolding ceiling
+ceiling-at [] i h = omega arith
+ceiling-at (x ∷ l) zero h = omega arith
+ceiling-at (x ∷ l) (suc i) h = omega (arith, ceiling-at l i (omega arith))
 
-pub top-set : (l : List ℕ) (i v : ℕ) → top (set l i v) ≤ max (v + 1) (top l)
-unfolding top
-top-set [] i v = omega arith
-top-set (x ∷ l) zero v = omega arith
-top-set (x ∷ l) (suc i) v = omega (arith, top-set l i v)
+pub ceiling-set : (l : List ℕ) (i v : ℕ) → ceiling (set l i v) ≤ max (v + 1) (ceiling l)
+unfolding ceiling
+ceiling-set [] i v = omega arith
+ceiling-set (x ∷ l) zero v = omega arith
+ceiling-set (x ∷ l) (suc i) v = omega (arith, ceiling-set l i v)
 
-pub top-append : (a b : List ℕ) → top (a ++ b) ≡ max (top a) (top b)
-unfolding top
-top-append [] b = omega arith
-top-append (x ∷ a) b = omega (arith, top-append a b)
+pub ceiling-append : (a b : List ℕ) → ceiling (a ++ b) ≡ max (ceiling a) (ceiling b)
+unfolding ceiling
+ceiling-append [] b = omega arith
+ceiling-append (x ∷ a) b = omega (arith, ceiling-append a b)
 
 -- a count that goes up by one, a value that only falls
-pub top-bump : (l : List ℕ) (i : ℕ) → top (set l i (getD l i 0 + 1)) ≤ top l + 1
-unfolding top
-top-bump [] i = omega arith
-top-bump (x ∷ l) zero = omega arith
-top-bump (x ∷ l) (suc i) = omega (arith, top-bump l i)
+pub ceiling-bump : (l : List ℕ) (i : ℕ) → ceiling (set l i (getD l i 0 + 1)) ≤ ceiling l + 1
+unfolding ceiling
+ceiling-bump [] i = omega arith
+ceiling-bump (x ∷ l) zero = omega arith
+ceiling-bump (x ∷ l) (suc i) = omega (arith, ceiling-bump l i)
 
-pub top-least : (l : List ℕ) (i v : ℕ) → top (set l i (min (getD l i 0) v)) ≤ top l
-unfolding top
-top-least [] i v = omega arith
-top-least (x ∷ l) zero v = omega arith
-top-least (x ∷ l) (suc i) v = omega (arith, top-least l i v)
+pub ceiling-least : (l : List ℕ) (i v : ℕ) → ceiling (set l i (min (getD l i 0) v)) ≤ ceiling l
+unfolding ceiling
+ceiling-least [] i v = omega arith
+ceiling-least (x ∷ l) zero v = omega arith
+ceiling-least (x ∷ l) (suc i) v = omega (arith, ceiling-least l i v)
 
-pub top-take : (n : ℕ) (l : List ℕ) → top (take n l) ≤ top l
-unfolding top
-top-take zero l = omega arith
-top-take (suc n) [] = omega arith
-top-take (suc n) (x ∷ l) = omega (arith, top-take n l)
+pub ceiling-take : (n : ℕ) (l : List ℕ) → ceiling (take n l) ≤ ceiling l
+unfolding ceiling
+ceiling-take zero l = omega arith
+ceiling-take (suc n) [] = omega arith
+ceiling-take (suc n) (x ∷ l) = omega (arith, ceiling-take n l)
 
-pub top-drop : (n : ℕ) (l : List ℕ) → top (drop n l) ≤ top l
-unfolding top
-top-drop zero l = omega arith
-top-drop (suc n) [] = omega arith
-top-drop (suc n) (x ∷ l) = omega (arith, top-drop n l)
+pub ceiling-drop : (n : ℕ) (l : List ℕ) → ceiling (drop n l) ≤ ceiling l
+unfolding ceiling
+ceiling-drop zero l = omega arith
+ceiling-drop (suc n) [] = omega arith
+ceiling-drop (suc n) (x ∷ l) = omega (arith, ceiling-drop n l)
 
-pub top-replicate : (n v : ℕ) → top (replicate n v) ≤ v + 1
-unfolding top
-top-replicate zero v = omega arith
-top-replicate (suc n) v = omega (arith, top-replicate n v)
+pub ceiling-replicate : (n v : ℕ) → ceiling (replicate n v) ≤ v + 1
+unfolding ceiling
+ceiling-replicate zero v = omega arith
+ceiling-replicate (suc n) v = omega (arith, ceiling-replicate n v)

@@ -8,9 +8,9 @@ abbrev pub region : ℕ → ℕ → List ℕ → List ℕ
 region b n w = take n (drop b w)
 
 -- one more than the greatest element: a bound of all elements as one number, which omega can carry
-unfoldable pub top : List ℕ → ℕ
-top [] = 0
-top (x ∷ l) = max (x + 1) (top l)
+unfoldable pub ceiling : List ℕ → ℕ
+ceiling [] = 0
+ceiling (x ∷ l) = max (x + 1) (ceiling l)
 
 -- nothing below `a` and nothing from `b` on has changed
 pub record Kept (a b : ℕ) (w₀ w : List ℕ) : Type 0 where

@@ -1,22 +1,24 @@
 // Tests of objects: whether the fields of every open and every closed one are right.
 use layout::counts::read_counts;
+use layout::link::Link;
+use layout::link::link_at;
 use layout::span::Span;
 use layout::span::closed_span;
 use layout::span::open_span;
 use layout::words::LINKS_AT;
-use layout::words::word;
 use model::LINK_WORDS;
 ghost use mathlib.Core.Path.{_≡_};
-ghost use Prim.Native.Nat.{_+_, _*_, _<_};
+ghost use Prim.Native.Nat.{_*_, _^_, _<_};
 ghost use lib.ListN.{length};
 ghost use Rattle.lists.specs.Lists.{holds};
 ghost use Rattle.model.specs.Object.{widthOk};
-ghost use Rattle.layout.specs.Words.{linkWords, linksOf, linkAt, openDepth, closedCount, linksAt};
+ghost use Rattle.layout.specs.Words.{linkWords, linksOf, openDepth, closedCount, linksAt};
 ghost use Rattle.layout.specs.Fields.{fieldTests, fieldsOk, objectOk};
 ghost use mathlib.Core.Bool.{true};
 ghost use Rattle.layout.specs.Tables.{forAll};
 ghost use Rattle.layout.specs.Decode.{objectIn, openAt, closedAt};
 ghost use Rattle.layout.specs.Sound.{tableTests};
+ghost use Rattle.layout.specs.Links.{linkIn};
 ghost use Rattle.layout.specs.Spans.{Within};
 ghost use Rattle.layout.specs.Known.{Head};
 
@@ -26,14 +28,14 @@ pub fn width_ok(width: usize) -> bool
     (width == 2) | (width == 4)
 }
 
-// One link's field, its words from index i on.
-fn field_ok(bytes: &[u8], links: &[u32], i: usize, from: usize, kids: usize) -> bool
-    requires { ⌜ i + 2 < length (now links) ⌝ }
-    ensures { λ r. ⌜ r ≡ holds (fieldTests kids from (now (bytes .entry)) (linkAt (now (links .entry)) i)) ⌝ }
+// One link's field.
+fn field_ok(bytes: &[u8], l: Link, from: usize, kids: usize) -> bool
+    requires { ⌜ (l .at < 2 ^ 32) × (l .width < 2 ^ 32) ⌝ }
+    ensures { λ r. ⌜ r ≡ holds (fieldTests kids from (now (bytes .entry)) (linkIn l)) ⌝ }
 {
-    let at = word(links, i);
-    let width = word(links, i + 1);
-    let child = word(links, i + 2);
+    let at = l.at;
+    let width = l.width;
+    let child = l.child;
     let end = at + width;
     if at < from {
         return false;
@@ -59,10 +61,11 @@ pub fn object_ok(bytes: &[u8], links: &[u32], count: usize, kids: usize) -> bool
     let mut i = 0;
     let mut left = count;
     while 0 < left {
-        if !field_ok(bytes, links, i, from, kids) {
+        let l = link_at(links, i);
+        if !field_ok(bytes, l, from, kids) {
             return false;
         }
-        from = word(links, i) + word(links, i + 1);
+        from = l.at + l.width;
         i += LINK_WORDS;
         left -= 1;
     }

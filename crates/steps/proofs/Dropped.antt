@@ -14,7 +14,7 @@ use Rattle.layout.specs.Known.{Sound}
 use Rattle.steps.specs.Steps.{under, droppedBytes, droppedWords, lessInner}
 use Rattle.steps.proofs.Tallies.{tally-same}
 use Rattle.steps.proofs.Innermost.{outer-decode, inner-edges}
-use Rattle.steps.proofs.Frames.{Kept, kept-others}
+use Rattle.steps.proofs.Frames.{ObjectsKept, kept-others}
 use Rattle.steps.proofs.Sides.{Leaves, kept-opens, kept-closed, sides-leave}
 
 module _ {b w : List ℕ} (s : Sound b w) (h : 0 < openDepth w) where
@@ -24,7 +24,7 @@ module _ {b w : List ℕ} (s : Sound b w) (h : 0 < openDepth w) where
   others : (j : ℕ) → (j ≡ openDepthAt → ⊥) → getD (droppedWords w) j 0 ≡ getD w j 0
   others j e = getD-set-other w openDepthAt j (openDepth w - 1) 0 e
 
-  kept : Kept (openDepth w - 1) b w (droppedBytes b w) (droppedWords w)
+  kept : ObjectsKept (openDepth w - 1) b w (droppedBytes b w) (droppedWords w)
   kept =
       let e = inner-edges b w h s in
       kept-others s (omega arith) (omega arith) (length-cleared (under w) (top w - under w) b within) (cleared-before (under w) (top w - under w) b within)

@@ -24,7 +24,7 @@ pub same-next : {base n : ℕ} {w w' : List ℕ} → Same base n w w' → (i : �
 same-next {base} same i h = let e : base + (i + 1) ≡ base + i + 1 = omega arith in rw e at (same .at (i + 1) (omega arith))
 
 -- stores that keep the first d open objects of b w, and every closed one
-pub record Kept (d : ℕ) (b w b' w' : List ℕ) : Type 0 where
+pub record ObjectsKept (d : ℕ) (b w b' w' : List ℕ) : Type 0 where
   pub known : d ≤ openDepth w
   pub bytes : length b' ≡ length b
   pub words : length w' ≡ length w
@@ -47,7 +47,7 @@ pub record Other (d : ℕ) (w : List ℕ) (j : ℕ) : Type 0 where
 
 module _ {d : ℕ} {b w b' w' : List ℕ} (s : Sound b w) (known : d ≤ openDepth w) (room : d < mostOpen) where
   pub kept-others : length b' ≡ length b → ((i : ℕ) → i < getD w (endsAt + d) 0 → getD b' i 0 ≡ getD b i 0) → ((i : ℕ) → low w ≤ i → getD b' i 0 ≡ getD b i 0)
-      → length w' ≡ length w → ((j : ℕ) → Other d w j → getD w' j 0 ≡ getD w j 0) → Kept d b w b' w'
+      → length w' ≡ length w → ((j : ℕ) → Other d w j → getD w' j 0 ≡ getD w j 0) → ObjectsKept d b w b' w'
   kept-others bytes front back words others =
       let e = rising-last (sound-tables s .linkEnds) d known in
       record {
@@ -79,7 +79,7 @@ module _ (b w b' w' : List ℕ) where
   closedTo-same zero e = refl
   closedTo-same (suc n) e = ap₂ (λ (os : List Object) (o : Object). os ++ (o ∷ [])) (closedTo-same n (λ i m. e i (omega arith))) (e n (omega arith))
 
-module _ {d : ℕ} {b w b' w' : List ℕ} (s : Sound b w) (k : Kept d b w b' w') where
+module _ {d : ℕ} {b w b' w' : List ℕ} (s : Sound b w) (k : ObjectsKept d b w b' w') where
   linkBeginsAt-kept : linkBeginsAt w' ≡ linkBeginsAt w
   linkBeginsAt-kept = rw (k .objects)
 

@@ -25,12 +25,12 @@ use Rattle.steps.specs.Steps.{tallyIn, under, linkUnder, inner, linkWord
 use Rattle.steps.proofs.Fields.{ok-put, ok-link}
 use Rattle.steps.proofs.Tallies.{tally-same}
 use Rattle.steps.proofs.Innermost.{innermost-decode, outer-decode, inner-is, inner-size, inner-right, inner-edges}
-use Rattle.steps.proofs.Frames.{Kept, kept-others, links-at, links-kept}
+use Rattle.steps.proofs.Frames.{ObjectsKept, kept-others, links-at, links-kept}
 use Rattle.steps.proofs.Sides.{Leaves, more-opens, kept-opens, kept-closed, sides-leave}
 
 -- the innermost open object after f, which ends at byte t, its links at number l
 record Grows (f : Object → Object) (t l : ℕ) (b w b' w' : List ℕ) : Type 0 where
-  kept : Kept (openDepth w - 1) b w b' w'
+  kept : ObjectsKept (openDepth w - 1) b w b' w'
   depth : openDepth w' ≡ openDepth w
   count : closedCount w' ≡ closedCount w
   end : getD w' (endsAt + openDepth w) 0 ≡ t
@@ -78,7 +78,7 @@ module _ {b w : List ℕ} (vs : List ℕ) (s : Sound b w) (h : 0 < openDepth w) 
       let d : ℕ = openDepth w - 1 in
       let e = inner-edges b w h s in
       let within : top w + length vs ≤ length b = omega arith in
-      let kept : Kept d b w putBytes putWords =
+      let kept : ObjectsKept d b w putBytes putWords =
       kept-others s (omega arith) (omega arith) (length-over (top w) vs b within) (λ i k. over-before (top w) vs b within i (omega arith))
       (λ i k. over-after (top w) vs b within i (omega arith)) (length-set w _ _) (λ j o. put-others j (λ f. o .end (omega arith))) in
       record {
@@ -130,7 +130,7 @@ module _ {b w : List ℕ} (width id : ℕ) (s : Sound b w) (h : 0 < openDepth w)
   link-words-kept : length linkedWords ≡ length w
   link-words-kept = simp length-set (length-over _ (wordsOf made) w link-fits)
 
-  link-kept : Kept (openDepth w - 1) b w b linkedWords
+  link-kept : ObjectsKept (openDepth w - 1) b w b linkedWords
   link-kept =
       let u = inner-edges b w h s in
       kept-others s (omega arith) (omega arith) refl (λ i k. refl) (λ i k. refl) link-words-kept

@@ -18,7 +18,7 @@ use Rattle.layout.specs.Known.{Sound}
 use Rattle.steps.specs.Steps.{tallyIn}
 use Rattle.steps.proofs.Fields.{ok-none}
 use Rattle.steps.proofs.Tallies.{tally-same}
-use Rattle.steps.proofs.Frames.{Kept, Other, kept-others}
+use Rattle.steps.proofs.Frames.{ObjectsKept, Other, kept-others}
 use Rattle.steps.proofs.Sides.{Leaves, more-opens, kept-opens, kept-closed, sides-leave}
 
 part-none : (a : ℕ) (l : List ℕ) → part a a l ≡ []
@@ -35,7 +35,7 @@ module _ {b w : List ℕ} (s : Sound b w) (h : openDepth w < mostOpen) where
   others : (j : ℕ) → Other (openDepth w) w j → getD words j 0 ≡ getD w j 0
   others j o = simp (getD-set-other, o .depth, o .end, o .linkEnd)
 
-  kept : Kept (openDepth w) b w b words
+  kept : ObjectsKept (openDepth w) b w b words
   kept = kept-others s (le-refl _) h refl (λ i k. refl) (λ i k. refl) (simp length-set) others
 
   depth : openDepth words ≡ suc (openDepth w)

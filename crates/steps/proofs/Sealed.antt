@@ -18,7 +18,7 @@ use Rattle.layout.proofs.Links.{link-words}
 use Rattle.steps.specs.Steps.{tallyIn, under, linkUnder, inner, newLow, newLinkLow, sealedBytes, sealedWords}
 use Rattle.steps.proofs.Tallies.{tally-same}
 use Rattle.steps.proofs.Innermost.{Edges, innermost-decode, outer-decode, inner-is, inner-right, inner-edges}
-use Rattle.steps.proofs.Frames.{Kept, links-at}
+use Rattle.steps.proofs.Frames.{ObjectsKept, links-at}
 use Rattle.steps.proofs.Sides.{Leaves, kept-opens, kept-closed, more-closed, sides-leave}
 
 -- word j is none that the step writes
@@ -132,7 +132,7 @@ module _ {b w : List ℕ} (s : Sound b w) (h : 0 < openDepth w) (some : under w 
 
   -- ---- both
 
-  kept : Kept (openDepth w - 1) b w (sealedBytes b w) (sealedWords w)
+  kept : ObjectsKept (openDepth w - 1) b w (sealedBytes b w) (sealedWords w)
   kept =
       let e = edges in
       let f = to-low in

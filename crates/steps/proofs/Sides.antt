@@ -23,7 +23,7 @@ use Rattle.steps.specs.Runs.{Drawn}
 use Rattle.steps.proofs.Tables.{below-more, forAll-at, forAll-of, rising-of, falling-of}
 use Rattle.steps.proofs.Fields.{ok-more}
 use Rattle.steps.proofs.Tallies.{tally-decode}
-use Rattle.steps.proofs.Frames.{Same, same-next, Kept, head-kept, limits-kept, object-same, open-kept, closed-kept, opensTo-kept, closedTo-kept}
+use Rattle.steps.proofs.Frames.{Same, same-next, ObjectsKept, head-kept, limits-kept, object-same, open-kept, closed-kept, opensTo-kept, closedTo-kept}
 
 -- ---- tables
 
@@ -128,7 +128,7 @@ module _ {n t l t' l' : ℕ} {os : List Object} {b w : List ℕ} (o : Object) wh
       }
 
 -- those that a step keeps
-module _ {d : ℕ} {b w b' w' : List ℕ} (s : Sound b w) (k : Kept d b w b' w') where
+module _ {d : ℕ} {b w b' w' : List ℕ} (s : Sound b w) (k : ObjectsKept d b w b' w') where
   pub kept-opens : closedCount w ≤ closedCount w' → Opens d (getD w (endsAt + d) 0) (getD w (linkEndsAt + d) 0) (opensTo b w d) b' w'
   kept-opens m =
       let t = sound-tables s in
@@ -211,7 +211,7 @@ pub record Leaves (b w b' w' : List ℕ) (t : Tally) (a : Session) : Type 0 wher
   pub sameBytes : length b' ≡ length b
   pub sameWords : length w' ≡ length w
 
-module _ {d n t l m u v : ℕ} {os cs : List Object} {b w b' w' : List ℕ} (s : Sound b w) (k : Kept d b w b' w') (o : Opens n t l os b' w') (c : Closed m u v cs b' w') where
+module _ {d n t l m u v : ℕ} {os cs : List Object} {b w b' w' : List ℕ} (s : Sound b w) (k : ObjectsKept d b w b' w') (o : Opens n t l os b' w') (c : Closed m u v cs b' w') where
   pub sides-leave : openDepth w' ≡ n → closedCount w' ≡ m → n ≤ mostOpen → m ≤ objectLimit w → t ≤ u → l ≤ v → ((i : ℕ) → t ≤ i → i < u → getD b' i 0 ≡ 0)
       → (y : Tally) → y ≡ record { bytes = t + (length b - u); links = l + (linkLimit w - v); objects = m; depth = n }
       → Leaves b w b' w' y (record { limits = limitsIn w; opens = os; closed = cs })

@@ -1,54 +1,34 @@
 -- Each refusal is a test that fails; past them all, the field's bytes decide.
-use borrow.Author.Needs.{needs}
 use borrow.Author.Tests.{lt-leb, le-ltb, not-true, not-false}
 use mathlib.Core.Path.{sym, _∙_}
-use native.Mathlib.Omega.{arith}
 use Rattle.lists.proofs.Holds.{holds-not}
 use Rattle.layout.specs.Fields.{fieldTests}
 use Rattle.layout.proofs.FieldTests.{field-bytes}
+use borrow.Author.Needs.{needs}
 use Rattle.sound_fields.proofs.field_ok.Statement.{statement}
 use Rattle.sound_fields.proofs.field_ok.Tie as tie
-
-word-requires : tie.Need-word-requires
-word-requires c κs = search needs
-
-add-word : tie.Need-add-word
-add-word c = search needs
-
-word-requires-2 : tie.Need-word-requires-2
-word-requires-2 c κs = search needs
-
-add-word-2 : tie.Need-add-word-2
-add-word-2 c = search needs
-
-word-requires-3 : tie.Need-word-requires-3
-word-requires-3 c κs = search needs
 
 add-end : tie.Need-add-end
 add-end c = search needs
 
 returns : tie.Need-returns
 unfolding fieldTests
-returns c = sym (holds-not _ 0 (lt-leb _ _ (rw (c .before .before .before .word .ensures .0) at (c .if1 .taken))))
+returns c = sym (holds-not _ 0 (lt-leb _ _ (c .if1 .taken)))
 
 width-ok-requires : tie.Need-width-ok-requires
 width-ok-requires c κs = search needs
 
 returns-2 : tie.Need-returns-2
 unfolding fieldTests
-returns-2 c =
-    let e = c .before .before .before .before .word2 .ensures .0 in
-    sym (holds-not _ 1 (rw e at (sym (c .before .width-ok .ensures) ∙ not-true _ (c .if2 .taken))))
+returns-2 c = sym (holds-not _ 1 (sym (c .before .width-ok .ensures) ∙ not-true _ (c .if2 .taken)))
 
 returns-3 : tie.Need-returns-3
 unfolding fieldTests
-returns-3 c =
-    let w = c .before .before .before .before .before in
-    sym (holds-not _ 2 (lt-leb _ _ (rw (w .before .word .ensures .0, w .word2 .ensures .0) at (c .if3 .taken))))
+returns-3 c = sym (holds-not _ 2 (lt-leb _ _ (c .if3 .taken)))
 
 returns-4 : tie.Need-returns-4
 unfolding fieldTests
-returns-4 c = sym (holds-not _ 3 (le-ltb _ _ (rw (c .before .before .before .before .before .word3 .ensures .0) at (c .if4 .taken))))
+returns-4 c = sym (holds-not _ 3 (le-ltb _ _ (c .if4 .taken)))
 
 sub-all-zero : tie.Need-sub-all-zero
 sub-all-zero c = search needs
@@ -64,20 +44,13 @@ all-zero-requires c κs = search needs
 
 returns-5 : tie.Need-returns-5
 returns-5 c =
-    let w = c .before .before .before .before .before .before .before .before in
     let wide = sym (c .before .before .before .before .before .width-ok .ensures) ∙ not-false _ (c .before .before .before .before .if2 .left) in
-    (rw (w .before .word .ensures .0, w .word2 .ensures .0) at (c .all-zero .ensures))
-    ∙ field-bytes _ _ _ _ (omega arith) (rw (w .word2 .ensures .0) at wide) (omega arith) (omega arith)
+    c .all-zero .ensures ∙ field-bytes _ _ _ _ (c .before .before .before .before .before .before .if1 .left) wide (c .before .before .before .if3 .left) (c .before .before .if4 .left)
 
 pub field-ok-spec : {M : Type 1} → statement M
 field-ok-spec =
     tie.close
     (tie.spec
-    word-requires
-    add-word
-    word-requires-2
-    add-word-2
-    word-requires-3
     add-end
     returns
     width-ok-requires

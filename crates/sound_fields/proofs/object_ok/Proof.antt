@@ -1,12 +1,13 @@
 -- The fields are right exactly if those that are left are, past the last one.
-use borrow.Author.Needs.{needs}
 use borrow.Author.Tests.{not-true, not-false}
-use mathlib.Core.Path.{_≡_, refl, sym, _∙_}
+use mathlib.Core.Path.{_≡_, refl, sym, ap, _∙_}
 use Prim.Native.Nat.{_+_, _*_}
 use lib.ListN.{length, drop}
+use Rattle.model.specs.Object.{Link}
 use Rattle.layout.specs.Words.{linkWords, linksOf}
 use Rattle.layout.specs.Fields.{fieldsOk}
 use Rattle.layout.proofs.FieldTests.{fields-next, fields-all}
+use borrow.Author.Needs.{needs}
 use Rattle.sound_fields.proofs.object_ok.Statement.{statement}
 use Rattle.sound_fields.proofs.object_ok.Tie as tie
 
@@ -20,23 +21,18 @@ abbrev μ-loop : tie.MeasureT-loop
 loop-holds : tie.Need-loop-holds Inv-loop μ-loop
 loop-holds c = (search needs, refl)
 
+link-at-requires : tie.Need-link-at-requires Inv-loop μ-loop
+link-at-requires c κs = search needs
+
 field-ok-requires : tie.Need-field-ok-requires Inv-loop μ-loop
-field-ok-requires c κs = search needs
+field-ok-requires c κs = (c .link-at .ensures .at, c .link-at .ensures .width)
 
 returns : tie.Need-returns Inv-loop μ-loop
 returns c =
-    let l = c .before .before .before .loop in
+    let at-link = c .before .before in
+    let l = at-link .before .before .loop in
     let z = sym (c .before .field-ok .ensures) ∙ not-true _ (c .if1 .taken) in
-    sym (l .inv .1 ∙ fields-next _ (l .from) _ _ (l .i) (search needs) ∙ rw z)
-
-word-requires : tie.Need-word-requires Inv-loop μ-loop
-word-requires c κs = search needs
-
-add-word : tie.Need-add-word Inv-loop μ-loop
-add-word c = search needs
-
-word-requires-2 : tie.Need-word-requires-2 Inv-loop μ-loop
-word-requires-2 c κs = search needs
+    sym (l .inv .1 ∙ fields-next _ (l .from) _ _ (l .i) (search needs) ∙ rw (← at-link .link-at .ensures .is, z))
 
 add-from : tie.Need-add-from Inv-loop μ-loop
 add-from c = search needs
@@ -52,9 +48,12 @@ loop-less c = search needs
 
 loop-again : tie.Need-loop-again Inv-loop μ-loop
 loop-again c =
-    let l = c .before .before .before .before .before .loop in
-    let z = sym (c .before .before .before .field-ok .ensures) ∙ not-false _ (c .before .before .if1 .left) in
-    (search needs, l .inv .1 ∙ fields-next _ (l .from) _ _ (l .i) (search needs) ∙ rw (z, c .before .word .ensures .0, c .word2 .ensures .0))
+    let at-link = c .before .before .before in
+    let l = at-link .before .before .loop in
+    let read = at-link .link-at .ensures .is in
+    let z = sym (c .before .before .field-ok .ensures) ∙ not-false _ (c .before .if1 .left) in
+    let ends = ap (λ (x : Link). x .at + x .width) read in
+    (search needs, l .inv .1 ∙ fields-next _ (l .from) _ _ (l .i) (search needs) ∙ rw (← read, z, ends))
 
 returns-2 : tie.Need-returns-2 Inv-loop μ-loop
 returns-2 c = let l = c .before .loop in sym (l .inv .1 ∙ fields-all _ (l .from) _ _ (l .i) (search needs))
@@ -66,11 +65,9 @@ object-ok-spec =
     Inv-loop
     μ-loop
     loop-holds
+    link-at-requires
     field-ok-requires
     returns
-    word-requires
-    add-word
-    word-requires-2
     add-from
     add-i
     sub-left
