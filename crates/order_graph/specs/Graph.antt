@@ -47,13 +47,15 @@ objectOf i = record { 0 = i }
 
 -- ---- numbers that the arithmetic leans on
 
--- nodes and links are fewer than this, and sizes less
+-- room for at most so many nodes: far more than the object limit can be
 abbrev pub mostNodes : ℕ
 mostNodes = 65536
 
-abbrev pub mostLinks : ℕ
-mostLinks = 16777216
+-- a node has at most so many links: far more than the link limit can be
+abbrev pub mostNodeLinks : ℕ
+mostNodeLinks = 16777216
 
+-- a size is less than this: what a word of the record store can hold
 abbrev pub mostSize : ℕ
 mostSize = 4294967296
 
@@ -63,7 +65,7 @@ mostWeight = 8589934592
 
 -- the links of node i lie in the graph's words, have a known width, and go to other nodes of the n
 pub record TidyNode (a : Areas) (n : ℕ) (f : List ℕ) (i : ℕ) : Type 0 where
-  pub few : linkCount a f i ≤ mostLinks
+  pub few : linkCount a f i ≤ mostNodeLinks
   pub within : linksAt a f i + linkCount a f i * linkWords ≤ a .keys
   pub wide : (t : ℕ) → t < linkCount a f i → widthOk (linkOf a f i t .width) ≡ true
   pub known : (t : ℕ) → t < linkCount a f i → linkOf a f i t .child < n

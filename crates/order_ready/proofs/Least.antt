@@ -18,6 +18,12 @@ module _ (key : ℕ → ℕ) where
   least-start [] h = absurd (omega arith)
   least-start (x ∷ l) h = refl
 
+  -- nothing is less than 0
+  from-zero : (best i : ℕ) (l : List ℕ) → leastFrom key best 0 i l ≡ best
+  unfolding leastFrom
+  from-zero best i [] = refl
+  from-zero best i (x ∷ l) = rw (le-ltb (key x) 0 (omega arith)) (from-zero best (i + 1) l)
+
   module _ (l : List ℕ) (best low i : ℕ) where
     least-less : i < length l → key (getD l i 0) < low → leastFrom key best low i (drop i l) ≡ leastFrom key i (key (getD l i 0)) (i + 1) (drop (i + 1) l)
     unfolding leastFrom
@@ -57,6 +63,9 @@ module _ {a : Areas} {k : ℕ} {w : List ℕ} (s : Choosing a k w) where
 
     pub key-read : getD w (a .keys + word) 0 ≡ keyIn a w (getD ready i 0)
     key-read = region-at (a .keys) (a .nodes) w word ready-id ∙ ap (keyIn a w) word-at
+
+  pub least-zero : (low : ℕ) → low ≡ keyIn a w (getD ready 0 0) → low ≡ 0 → 0 ≡ leastAt (keyIn a w) ready
+  least-zero low e z = sym (least-start _ ready (omega (arith, ready-long)) ∙ rw (sym e ∙ z) (from-zero _ 0 1 (drop 1 ready)))
 
   pub least-first : (low : ℕ) → low ≡ keyIn a w (getD ready 0 0) → Least a k 0 low 1 w
   least-first low e = record { some = omega arith; few = omega arith; left = least-start _ ready (omega (arith, ready-long)) ∙ rw (← e) }

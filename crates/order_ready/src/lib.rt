@@ -17,13 +17,16 @@ fn key_at(work: &[u64], a: Areas, k: usize, i: usize) -> u64
     work[keys + x]
 }
 
-// The place of the least key among the k ready nodes, the first of equals.
+// The place of the least key among the k ready nodes, the first of equals. No key is less than 0, so that keys that are all 0 cost no look.
 pub fn least_at(work: &[u64], a: Areas, k: usize) -> usize
     requires { ⌜ Choosing a k (now work) ⌝ }
     ensures { λ r. ⌜ (r < k) × (r ≡ leastAt (keyIn a (now (work .entry))) (readyIn a k (now (work .entry)))) ⌝ }
 {
     let mut best = 0;
     let mut low = key_at(work, a, k, 0);
+    if low == 0 {
+        return best;
+    }
     let mut i = 1;
     while i < k {
         let x = key_at(work, a, k, i);

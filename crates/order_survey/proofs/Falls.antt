@@ -14,7 +14,7 @@ use Rattle.regions.proofs.Frame.{kept-all, kept-then, kept-set, kept-less, kept
 use Rattle.model.specs.Graph.{Graph}
 use Rattle.work.specs.Views.{lineIn, incomingIn}
 use Rattle.work.specs.declared.Areas.{Areas}
-use Rattle.order_graph.specs.Graph.{graphOn, mostLinks, AtNode}
+use Rattle.order_graph.specs.Graph.{graphOn, mostNodeLinks, AtNode}
 use Rattle.order_graph.proofs.Links.{front-kept, stands-kept}
 use Rattle.order_survey.specs.Survey.{Lined, countedAll, joined, lined, unlined, linedOf, Counting, CountedAll, Lining, LineFound}
 
@@ -24,7 +24,7 @@ pub record Falls (a : Areas) (n root i r : ℕ) (w₀ w : List ℕ) : Type 0 whe
   pub kept : Kept (a .line) (a .distances) w₀ w
   pub left : lined (graphOn a n w₀) (root + 1) (linedOf a 0 w₀) ≡ lined (graphOn a n w₀) i (linedOf a r w)
   pub ids : ceiling (lineIn a r w) ≤ n
-  pub small : ceiling (incomingIn a w) + i * mostLinks ≤ ceiling (incomingIn a w₀) + (root + 1) * mostLinks
+  pub small : ceiling (incomingIn a w) + i * mostNodeLinks ≤ ceiling (incomingIn a w₀) + (root + 1) * mostNodeLinks
 
 lined-one : (g : Graph) (i : ℕ) (s : Lined) → 0 < i → lined g i s ≡ lined g (i - 1) (pick (eqb (getD (s .incoming) (i - 1) 0) 0) s (joined g (i - 1) s))
 unfolding lined

@@ -14,7 +14,7 @@ use Rattle.model.specs.Distance.{weight, relax, relaxAll, distancesBy, distance
 use Rattle.model.specs.Table.{tableLength}
 use Rattle.work.specs.declared.Areas.{Areas}
 use Rattle.work.specs.Views.{lineIn, incomingIn, distancesIn}
-use Rattle.order_graph.specs.Graph.{graphOn, mostNodes, mostLinks, Stands, AtNode}
+use Rattle.order_graph.specs.Graph.{graphOn, mostNodes, mostNodeLinks, Stands, AtNode}
 
 -- ---- the line, and the incoming fields
 
@@ -51,17 +51,17 @@ farAway = 9223372036854775808
 -- the fields of node i
 pub record Counting (a : Areas) (n i : ℕ) (w : List ℕ) : Type 0 where
   pub node : AtNode a n i w
-  pub small : ceiling (incomingIn a w) + mostLinks ≤ farAway
+  pub small : ceiling (incomingIn a w) + mostNodeLinks ≤ farAway
 
 pub record CountedAll (a : Areas) (n i : ℕ) (w w′ : List ℕ) : Type 0 where
   pub kept : Kept (a .incoming) (a .distances) w w′
   pub incoming : incomingIn a w′ ≡ countedAll (graphOn a n w .links i) (incomingIn a w)
-  pub bound : ceiling (incomingIn a w′) ≤ ceiling (incomingIn a w) + mostLinks
+  pub bound : ceiling (incomingIn a w′) ≤ ceiling (incomingIn a w) + mostNodeLinks
 
 -- counts that leave room for those of all nodes
 pub record Lining (a : Areas) (n root : ℕ) (w : List ℕ) : Type 0 where
   pub node : AtNode a n root w
-  pub small : ceiling (incomingIn a w) + mostNodes * mostLinks ≤ farAway
+  pub small : ceiling (incomingIn a w) + mostNodes * mostNodeLinks ≤ farAway
 
 -- r nodes stand in the line, which was found from s
 pub record LineFound (a : Areas) (n root r : ℕ) (s : Lined) (w w′ : List ℕ) : Type 0 where

@@ -14,7 +14,7 @@ use Rattle.model.specs.Graph.{Ranked, Acyclic}
 use Rattle.model.proofs.Distances.{kid-link}
 use Rattle.work.specs.Areas.{areasOf, workNeed, graphWords, areas-apart}
 use Rattle.work.specs.declared.Areas.{Areas}
-use Rattle.order_graph.specs.Graph.{graphIn, linkOf, linksAt, linkCount, mostNodes, mostLinks, mostSize, Tidy}
+use Rattle.order_graph.specs.Graph.{graphIn, linkOf, linksAt, linkCount, mostNodes, mostNodeLinks, mostSize, Tidy}
 use Rattle.order_graph.proofs.Links.{stands-kept}
 use Rattle.order_survey.proofs.Distances.{node-links}
 use Rattle.order_fit.specs.Fit.{Placing}
@@ -39,7 +39,7 @@ both a b e = (and-left a b e, and-right a b e)
 -- the test of a node as facts
 record Node (a : Areas) (f : List ℕ) (i : ℕ) : Type 0 where
   light : getD f i 0 < mostSize
-  few : linkCount a f i ≤ mostLinks
+  few : linkCount a f i ≤ mostNodeLinks
   within : linksAt a f i + linkCount a f i * linkWords ≤ length f
   wide : (t : ℕ) → t < linkCount a f i → widthOk (linkOf a f i t .width) ≡ true
   lower : (t : ℕ) → t < linkCount a f i → linkOf a f i t .child < i
@@ -47,7 +47,7 @@ record Node (a : Areas) (f : List ℕ) (i : ℕ) : Type 0 where
 node-told : (a : Areas) (f : List ℕ) (i : ℕ) → tidyNode a f i ≡ true → Node a f i
 node-told a f i e =
     let (light, e₁) = both (ltb (getD f i 0) mostSize) _ e in
-    let (few, e₂) = both (leb (linkCount a f i) mostLinks) _ e₁ in
+    let (few, e₂) = both (leb (linkCount a f i) mostNodeLinks) _ e₁ in
     let (within, links) = both (leb (linksAt a f i + linkCount a f i * linkWords) (length f)) _ e₂ in
     let link : (t : ℕ) → t < linkCount a f i → (widthOk (linkOf a f i t .width) ≡ true) × (ltb (linkOf a f i t .child) i ≡ true) =
     λ t h. both (widthOk (linkOf a f i t .width)) (ltb (linkOf a f i t .child) i) (below-at (linkCount a f i) (tidyLink a f i) links t h) in

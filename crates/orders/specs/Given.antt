@@ -10,7 +10,7 @@ use Rattle.model.specs.Words.{linkWords}
 use Rattle.model.specs.Graph.{Acyclic}
 use Rattle.work.specs.Areas.{areasOf, workNeed, graphWords}
 use Rattle.work.specs.declared.Areas.{Areas}
-use Rattle.order_graph.specs.Graph.{graphOn, linkOf, linksAt, linkCount, mostNodes, mostLinks, mostSize, Stands}
+use Rattle.order_graph.specs.Graph.{graphOn, linkOf, linksAt, linkCount, mostNodes, mostNodeLinks, mostSize, Stands}
 use Rattle.order_survey.specs.Survey.{Surveyed}
 
 -- enough words for the largest of the graphs
@@ -27,7 +27,7 @@ tidyLink a f i t = widthOk (linkOf a f i t .width) && ltb (linkOf a f i t .child
 abbrev pub tidyNode : Areas → List ℕ → ℕ → Bool
 tidyNode a f i =
     ltb (getD f i 0) mostSize
-    && (leb (linkCount a f i) mostLinks
+    && (leb (linkCount a f i) mostNodeLinks
     && (leb (linksAt a f i + linkCount a f i * linkWords) (length f)
     && allBelow (linkCount a f i) (tidyLink a f i)))
 

@@ -1,8 +1,8 @@
--- `least_at` meets its contract: the search left gives the place that is promised.
+-- `least_at` meets its contract: nothing is less than 0, and else the search left gives the place that is promised.
 use Prim.Native.Nat.{_-_}
 use native.Mathlib.Omega.{arith}
+use Rattle.order_ready.proofs.Least.{Least, least-zero, least-first, least-better, least-worse, least-done}
 use borrow.Author.Needs.{needs}
-use Rattle.order_ready.proofs.Least.{Least, least-first, least-better, least-worse, least-done}
 use Rattle.order_ready.proofs.least_at.Statement.{statement}
 use Rattle.order_ready.proofs.least_at.Tie as tie
 
@@ -15,8 +15,11 @@ abbrev μ-loop : tie.MeasureT-loop
 key-at-requires : tie.Need-key-at-requires Inv-loop μ-loop
 key-at-requires c κs = search needs
 
+returns : tie.Need-returns Inv-loop μ-loop
+returns c = (search needs, least-zero (c .before .before .before .pre) _ (c .before .key-at .ensures) (c .if1 .taken))
+
 loop-holds : tie.Need-loop-holds Inv-loop μ-loop
-loop-holds c = least-first (c .before .before .pre) _ (c .key-at .ensures)
+loop-holds c = least-first (c .before .before .before .pre) _ (c .before .key-at .ensures)
 
 key-at-requires-2 : tie.Need-key-at-requires-2 Inv-loop μ-loop
 key-at-requires-2 c κs = search needs
@@ -30,7 +33,7 @@ loop-less c = search needs
 loop-again : tie.Need-loop-again Inv-loop μ-loop
 loop-again c =
     let turn = c .before .before .before in
-    least-better (turn .before .before .before .pre) (turn .loop .inv) (c .before .before .loop-test .taken) _ (c .before .key-at2 .ensures) (omega (arith, c .if1 .taken))
+    least-better (turn .before .before .before .before .pre) (turn .loop .inv) (c .before .before .loop-test .taken) _ (c .before .key-at2 .ensures) (omega (arith, c .if2 .taken))
 
 add-i-2 : tie.Need-add-i-2 Inv-loop μ-loop
 add-i-2 c = search needs
@@ -41,10 +44,10 @@ loop-less-2 c = search needs
 loop-again-2 : tie.Need-loop-again-2 Inv-loop μ-loop
 loop-again-2 c =
     let turn = c .before .before .before in
-    least-worse (turn .before .before .before .pre) (turn .loop .inv) (c .before .before .loop-test .taken) _ (c .before .key-at2 .ensures) (omega (arith, c .if1 .left))
+    least-worse (turn .before .before .before .before .pre) (turn .loop .inv) (c .before .before .loop-test .taken) _ (c .before .key-at2 .ensures) (omega (arith, c .if2 .left))
 
-returns : tie.Need-returns Inv-loop μ-loop
-returns c = (search needs, least-done (c .before .before .before .before .pre) (c .before .loop .inv) (c .loop-test .left))
+returns-2 : tie.Need-returns-2 Inv-loop μ-loop
+returns-2 c = (search needs, least-done (c .before .before .before .before .before .pre) (c .before .loop .inv) (c .loop-test .left))
 
 pub least-at-spec : {M : Type 1} → statement M
 least-at-spec =
@@ -53,6 +56,7 @@ least-at-spec =
     Inv-loop
     μ-loop
     key-at-requires
+    returns
     loop-holds
     key-at-requires-2
     add-i
@@ -61,4 +65,4 @@ least-at-spec =
     add-i-2
     loop-less-2
     loop-again-2
-    returns)
+    returns-2)
