@@ -1,6 +1,6 @@
 // Parts of byte slices.
 ghost use mathlib.Core.Path.{_≡_};
-ghost use Prim.Native.Nat.{_+_, _-_, _≤_};
+ghost use Prim.Native.Nat.{_+_, _-_, _≤_, _<_};
 ghost use lib.Dec.{eqb};
 ghost use lib.ListN.{length, replicate};
 ghost use Rattle.lists.specs.Lists.{part, over, sameList, zeros};
@@ -41,21 +41,25 @@ pub fn move_up(s: &mut [u8], from: usize, to: usize, n: usize)
     }
 }
 
-// Whether the two are as long as each other and hold the same bytes.
-pub fn same(a: &[u8], b: &[u8]) -> bool
-    ensures { λ r. ⌜ r ≡ sameList eqb (now (a .entry)) (now (b .entry)) ⌝ }
+// Whether the n bytes from a on and the n from c on are the same: the first of both, which tell most runs apart, then all without a branch, so that it is quick.
+pub fn same(s: &[u8], a: usize, c: usize, n: usize) -> bool
+    requires { ⌜ (0 < n) × (a + n ≤ length (now s)) × (c + n ≤ length (now s)) ⌝ }
+    ensures { λ r. ⌜ r ≡ sameList eqb (part a (a + n) (now (s .entry))) (part c (c + n) (now (s .entry))) ⌝ }
 {
-    if a.len() != b.len() {
+    if s[a] != s[c] {
         return false;
     }
+    let last = n - 1;
+    if s[a + last] != s[c + last] {
+        return false;
+    }
+    let mut alike = true;
     let mut i = 0;
-    while i < a.len() {
-        if a[i] != b[i] {
-            return false;
-        }
+    while i < n {
+        alike = alike & (s[a + i] == s[c + i]);
         i += 1;
     }
-    true
+    alike
 }
 
 // How many bytes are looked at without a branch.

@@ -9,22 +9,31 @@ use layout::words::OPEN_DEPTH;
 use layout::words::set_word;
 use model::LINK_WORDS;
 ghost use mathlib.Core.Path.{_≡_};
-ghost use Prim.Native.Nat.{_-_, _≤_, _<_};
+ghost use mathlib.Core.Bool.{true};
+ghost use Prim.Native.Nat.{_-_, _≤_, _<_, min};
 ghost use lib.ListN.{length, replicate};
-ghost use Rattle.lists.specs.Lists.{part, over};
-ghost use Rattle.layout.specs.Words.{storeLength};
-ghost use Rattle.layout.specs.Known.{Innermost};
+ghost use Rattle.lists.specs.Lists.{part, over, zeros};
+ghost use Rattle.layout.specs.Known.{Read, Innermost};
 ghost use Rattle.steps.specs.Steps.{sealedBytes, sealedWords};
 
-// The bytes from `from` up to `top` moved up to end at `low`, zeros below them.
+fn lesser(a: usize, b: usize) -> usize
+    ensures { λ r. ⌜ r ≡ min a b ⌝ }
+{
+    if a < b {
+        return a;
+    }
+    b
+}
+
+// The bytes from `from` up to `top` moved up to end at `low`, zeros below them. Up to `low` zeros stand already: only what the bytes left is cleared.
 fn seal_bytes(store: &mut [u8], from: usize, top: usize, low: usize)
-    requires { ⌜ (from ≤ top) × (top ≤ low) × (low ≤ length (now store)) ⌝ }
+    requires { ⌜ (from ≤ top) × (top ≤ low) × (low ≤ length (now store)) × (zeros (part top low (now store)) ≡ true) ⌝ }
     ensures { λ _. ⌜ now (store .exit) ≡ over from (replicate (low - (top - from) - from) 0) (over (low - (top - from)) (part from top (now (store .entry))) (now (store .entry))) ⌝ }
 {
     let n = top - from;
     let to = low - n;
     memory::bytes::move_up(store, from, to, n);
-    memory::bytes::clear(store, from, to);
+    memory::bytes::clear(store, from, lesser(top, to));
 }
 
 // Its links' records moved up, one entry more in both tables of closed objects, and the counts.
@@ -50,9 +59,9 @@ fn seal_words(records: &mut [u32], s: State, own: Span)
     set_word(records, OPEN_DEPTH, s.depth - 1);
 }
 
-// It lies at `own`, and there is room for one more closed object.
+// It lies at `own`, and there is room for one more closed object. The time goes by its size and its links, not by the stores' length.
 pub fn seal(store: &mut [u8], records: &mut [u32], s: State, own: Span)
-    requires { ⌜ Innermost (now records) s own × (s .closed < s .objects) × (storeLength (now records) ≡ length (now store)) ⌝ }
+    requires { ⌜ Read (now store) (now records) s × Innermost (now records) s own × (s .closed < s .objects) ⌝ }
     ensures bytes { λ _. ⌜ now (store .exit) ≡ sealedBytes (now (store .entry)) (now (records .entry)) ⌝ }
     ensures words { λ _. ⌜ now (records .exit) ≡ sealedWords (now (records .entry)) ⌝ }
 {
