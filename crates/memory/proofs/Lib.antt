@@ -1,1 +1,2 @@
+pub mod Compares
 pub mod Writes

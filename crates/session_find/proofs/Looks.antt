@@ -1,16 +1,19 @@
--- The look for an equal closed object: id by id, then byte by byte, then by the words of the links.
+-- The look for an equal closed object: id by id, then by runs of bytes, then by runs of the words of the links.
 use mathlib.Core.Path.{_≡_, refl, sym, ap, subst, _∙_}
 use Prim.Native.Nat.{ℕ, _+_, _-_, _*_, _≤_, _<_}
-use mathlib.Core.List.{List, [], _∷_}
-use mathlib.Core.Bool.{true, false, _&&_, and-false, and-assoc}
+use mathlib.Core.List.{List, [], _∷_, _++_}
+use mathlib.Core.Bool.{Bool, true, false, _&&_, and-false, and-assoc}
 use native.Mathlib.Nat.{zero-add, add-zero}
 use native.Mathlib.Numerals.{add-one}
 use native.Mathlib.Omega.{arith}
-use lib.ListN.{length, drop, getD, drop-of-length-le}
+use lib.ListN.{length, drop, drop-of-length-le}
 use lib.Seq.{drop-cons}
 use lib.Dec.{eqb}
 use Rattle.lists.specs.Lists.{part, sameList, firstThat}
-use Rattle.lists.proofs.Alike.{alike, length-run, runs-differ, alike-next, alike-not, alike-all}
+use Rattle.lists.proofs.Alike.{length-run, runs-differ}
+use Rattle.lists.proofs.Parts.{part-part}
+use Rattle.lists.proofs.Runs.{length-part, part-drop}
+use Rattle.lists.proofs.Tests.{same-none}
 use Rattle.model.specs.Object.{Object, noObject, sameLink, sameObject}
 use Rattle.layout.specs.Words.{objectLimit, closedCount, openDepth, storeLength, linksAt, linkWords, need, linksOf}
 use Rattle.layout.specs.Decode.{objectIn, closedAt, closedTo}
@@ -24,7 +27,7 @@ use Rattle.steps.specs.Steps.{inner, twinIn}
 use Rattle.steps.proofs.Innermost.{inner-is}
 use Rattle.steps.proofs.Tallies.{length-closed, closed-at}
 use Rattle.session_find.specs.declared.Runs.{Runs}
-use Rattle.session_find.specs.Runs.{runsOf, HasRuns, Ground}
+use Rattle.session_find.specs.Runs.{runsOf, Matched, sameRun, HasRuns, Ground}
 
 -- ---- the closed objects by id
 
@@ -146,54 +149,71 @@ module _ {b w : List ℕ} {closed i : ℕ} (k : Look b w closed i) where
     pub look-next : sameObject (inner b w) (closedAt b w i) ≡ false → Look b w closed (i + 1)
     look-next e = record { closedIs = k .closedIs; within = omega arith; twinIs = k .twinIs ∙ twin-next b w i (omega arith) e }
 
--- ---- closed object i against the innermost open one, of the same size and as many words
+-- ---- run by run
+
+same-append : (l m u v : List ℕ) → length l ≡ length m → sameList eqb (l ++ u) (m ++ v) ≡ (sameList eqb l m && sameList eqb u v)
+unfolding sameList
+same-append [] [] u v h = refl
+same-append [] (y ∷ m) u v h = absurd (omega arith)
+same-append (x ∷ l) [] u v h = absurd (omega arith)
+same-append (x ∷ l) (y ∷ m) u v h = rw (same-append l m u v (omega arith), and-assoc)
+
+-- the n numbers of l from a on and the m from c on are the same, the first i of both left out
+unfoldable pub left : List ℕ → ℕ → ℕ → ℕ → ℕ → ℕ → Bool
+left l a n c m i = sameList eqb (drop i (part a (a + n) l)) (drop i (part c (c + m) l))
+
+module _ (l : List ℕ) (a n c m i : ℕ) (h : a + n ≤ length l) (k : c + m ≤ length l) where
+  left-run : (e : ℕ) → i ≤ e → e ≤ n → e ≤ m → left l a n c m i ≡ (sameRun l a c i e && left l a n c m e)
+  unfolding left
+  left-run e x y z =
+      let p = part a (a + n) l in
+      let q = part c (c + m) l in
+      let f = length-part i e p (omega (arith, length-run a n l h)) in
+      let g = length-part i e q (omega (arith, length-run c m l k)) in
+      rw (part-drop i e p x, part-drop i e q x, part-part i e a (a + n) l (omega arith), part-part i e c (c + m) l (omega arith)) at
+      (same-append (part i e p) (part i e q) (drop e p) (drop e q) (f ∙ sym g))
+
+  left-all : n ≤ i → m ≤ i → left l a n c m i ≡ true
+  unfolding left
+  left-all x y = same-none eqb i (part a (a + n) l) (part c (c + m) l) (omega (arith, length-run a n l h)) (omega (arith, length-run c m l k))
+
+-- ---- closed object i against the innermost open one
 
 -- the first j bytes and the first k words looked at
 pub record Pair (b w : List ℕ) (i : ℕ) (s t : Runs) (j k : ℕ) : Type 0 where
-  pub ownIn : s .from + s .size ≤ length b
-  pub otherIn : t .from + s .size ≤ length b
-  pub ownWordsIn : s .at + s .words ≤ length w
-  pub otherWordsIn : t .at + s .words ≤ length w
-  pub sameIs : sameObject (inner b w) (closedAt b w i) ≡ (alike b (s .from) (t .from) (s .size) j && alike w (s .at) (t .at) (s .words) k)
+  pub own : HasRuns b w (inner b w) s
+  pub other : HasRuns b w (closedAt b w i) t
+  pub sameIs : sameObject (inner b w) (closedAt b w i) ≡ (left b (s .from) (s .size) (t .from) (t .size) j && left w (s .at) (s .words) (t .at) (t .words) k)
 
-pub pair-first : {b w : List ℕ} {i : ℕ} {s t : Runs} → HasRuns b w (inner b w) s → HasRuns b w (closedAt b w i) t → t .size ≡ s .size → t .words ≡ s .words → Pair b w i s t 0 0
-unfolding alike
-pair-first x y h m =
-    record {
-      ownIn = x .bytesIn;
-      otherIn = omega (arith, y .bytesIn);
-      ownWordsIn = x .wordsIn;
-      otherWordsIn = omega (arith, y .wordsIn);
-      sameIs = rw (h, m) at (same-runs x y);
-    }
+pub pair-first : {b w : List ℕ} {i : ℕ} {s t : Runs} → HasRuns b w (inner b w) s → HasRuns b w (closedAt b w i) t → Pair b w i s t 0 0
+unfolding left
+pair-first x y = record { own = x; other = y; sameIs = same-runs x y }
 
-module _ {b w : List ℕ} {i : ℕ} {s t : Runs} {j k : ℕ} (x : Pair b w i s t j k) where
-  pub pair-byte : j < s .size → getD b (t .from + j) 0 ≡ getD b (s .from + j) 0 → Pair b w i s t (j + 1) k
-  pair-byte h e =
-      record {
-        ownIn = x .ownIn;
-        otherIn = x .otherIn;
-        ownWordsIn = x .ownWordsIn;
-        otherWordsIn = x .otherWordsIn;
-        sameIs = x .sameIs ∙ rw (alike-next b (s .from) (t .from) (s .size) j (x .ownIn) (x .otherIn) h e);
-      }
+module _ {b w : List ℕ} {i : ℕ} {s t : Runs} {j k : ℕ} (x : Pair b w i s t j k) (m : Matched t s) where
+  module _ {e : ℕ} (h : j ≤ e) (fits : e ≤ s .size) {r : Bool} (run : r ≡ sameRun b (s .from) (t .from) j e) where
+    bytes-run : left b (s .from) (s .size) (t .from) (t .size) j ≡ (r && left b (s .from) (s .size) (t .from) (t .size) e)
+    bytes-run = rw (← run) at (left-run b (s .from) (s .size) (t .from) (t .size) j (x .own .bytesIn) (x .other .bytesIn) e h fits (omega (arith, m .sizes)))
 
-  pub pair-word : k < s .words → getD w (t .at + k) 0 ≡ getD w (s .at + k) 0 → Pair b w i s t j (k + 1)
-  pair-word h e =
-      record {
-        ownIn = x .ownIn;
-        otherIn = x .otherIn;
-        ownWordsIn = x .ownWordsIn;
-        otherWordsIn = x .otherWordsIn;
-        sameIs = x .sameIs ∙ rw (alike-next w (s .at) (t .at) (s .words) k (x .ownWordsIn) (x .otherWordsIn) h e);
-      }
+    pub pair-bytes : r ≡ true → Pair b w i s t e k
+    pair-bytes z = record { own = x .own; other = x .other; sameIs = x .sameIs ∙ rw (bytes-run, z) }
 
-  pub bytes-differ : j < s .size → (getD b (t .from + j) 0 ≡ getD b (s .from + j) 0 → ⊥) → sameObject (inner b w) (closedAt b w i) ≡ false
-  bytes-differ h e = x .sameIs ∙ rw (alike-not b (s .from) (t .from) (s .size) j (x .ownIn) (x .otherIn) h e)
+    pub bytes-differ : r ≡ false → sameObject (inner b w) (closedAt b w i) ≡ false
+    bytes-differ z = x .sameIs ∙ rw (bytes-run, z)
 
-  pub words-differ : k < s .words → (getD w (t .at + k) 0 ≡ getD w (s .at + k) 0 → ⊥) → sameObject (inner b w) (closedAt b w i) ≡ false
-  words-differ h e = x .sameIs ∙ rw (alike-not w (s .at) (t .at) (s .words) k (x .ownWordsIn) (x .otherWordsIn) h e, and-false)
+  module _ {e : ℕ} (h : k ≤ e) (fits : e ≤ s .words) {r : Bool} (run : r ≡ sameRun w (s .at) (t .at) k e) where
+    words-run : left w (s .at) (s .words) (t .at) (t .words) k ≡ (r && left w (s .at) (s .words) (t .at) (t .words) e)
+    words-run = rw (← run) at (left-run w (s .at) (s .words) (t .at) (t .words) k (x .own .wordsIn) (x .other .wordsIn) e h fits (omega (arith, m .counts)))
+
+    pub pair-words : r ≡ true → Pair b w i s t j e
+    pair-words z = record { own = x .own; other = x .other; sameIs = x .sameIs ∙ rw (words-run, z) }
+
+    pub words-differ : r ≡ false → sameObject (inner b w) (closedAt b w i) ≡ false
+    words-differ z = x .sameIs ∙ rw (words-run, z, and-false)
 
   pub pair-same : s .size ≤ j → s .words ≤ k → sameObject (inner b w) (closedAt b w i) ≡ true
   pair-same h e =
-      x .sameIs ∙ rw (alike-all b (s .from) (t .from) (s .size) j (x .ownIn) (x .otherIn) h, alike-all w (s .at) (t .at) (s .words) k (x .ownWordsIn) (x .otherWordsIn) e)
+      x .sameIs
+      ∙ rw (
+        left-all b (s .from) (s .size) (t .from) (t .size) j (x .own .bytesIn) (x .other .bytesIn) h (omega (arith, m .sizes)),
+        left-all w (s .at) (s .words) (t .at) (t .words) k (x .own .wordsIn) (x .other .wordsIn) e (omega (arith, m .counts)),
+      )

@@ -92,7 +92,7 @@ returns-4 c =
 seal-requires : tie.Need-seal-requires
 seal-requires c κs =
     let k = inner (c .before .before .before .before .before .before .before .before .before .before) in
-    (k .lies, c .before .before .if4 .left, size-known (k .held .counts))
+    (k .held .counts, k .lies, c .before .before .if4 .left)
 
 add-requires : tie.Need-add-requires
 add-requires c κs =

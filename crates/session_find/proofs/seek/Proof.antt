@@ -1,8 +1,9 @@
--- Each id that is passed is not the answer; the object at it is compared with the innermost open one by the bytes and the words that are left.
-use Rattle.session_find.proofs.Looks.{closed-runs, closed-room, Look, look-first, look-none, look-here, look-next, Pair, other-size, other-words, pair-first, pair-byte, pair-word, bytes-differ, words-differ, pair-same}
+-- Each id that is passed is not the answer; the object at it is compared with the innermost open one by the runs of bytes and of words that are left.
 use Prim.Native.Nat.{_-_, _≤_}
 use native.Mathlib.Omega.{arith}
 use borrow.Author.Needs.{needs}
+use borrow.Author.Tests.{not-true, not-false}
+use Rattle.session_find.proofs.Looks.{closed-runs, closed-room, Look, look-first, look-none, look-here, look-next, other-size, other-words, Pair, pair-first, pair-bytes, pair-words, bytes-differ, words-differ, pair-same}
 use Rattle.session_find.proofs.seek.Statement.{statement}
 use Rattle.session_find.proofs.seek.Tie as tie
 
@@ -27,8 +28,8 @@ abbrev μ-next : tie.MeasureT-next
 next-holds : tie.Need-next-holds Inv-loop μ-loop Inv-loop2 μ-loop2 Inv-next μ-next
 next-holds c = look-first (c .before .before .pre .closedIs)
 
-cast-t13 : tie.Need-cast-t13 Inv-loop μ-loop Inv-loop2 μ-loop2 Inv-next μ-next
-cast-t13 c = search needs
+cast-t15 : tie.Need-cast-t15 Inv-loop μ-loop Inv-loop2 μ-loop2 Inv-next μ-next
+cast-t15 c = search needs
 
 add-i : tie.Need-add-i Inv-loop μ-loop Inv-loop2 μ-loop2 Inv-next μ-next
 add-i c = search needs
@@ -48,88 +49,98 @@ next-less : tie.Need-next-less Inv-loop μ-loop Inv-loop2 μ-loop2 Inv-next μ-n
 next-less c = search needs
 
 next-again : tie.Need-next-again Inv-loop μ-loop Inv-loop2 μ-loop2 Inv-next μ-next
-next-again c = look-next (c .before .before .before .before .before .before .next .inv) (c .before .before .before .before .before .if1 .left) (other-size (c .before .before .before .before .before .before .before .before .before .pre .innerRuns) (closed-runs (c .before .before .before .before .before .before .before .before .before .pre) (c .before .before .before .runs-of .ensures) (c .before .before .before .before .closed-span .ensures)) (c .if2 .taken))
+next-again c =
+    let g = c .before .before .before .before .before .before .before .before .before .pre in
+    let o = closed-runs g (c .before .before .before .runs-of .ensures) (c .before .before .before .before .closed-span .ensures) in
+    look-next (c .before .before .before .before .before .before .next .inv) (c .before .before .before .before .before .if1 .left) (other-size (g .innerRuns) o (c .if2 .taken))
 
 next-less-2 : tie.Need-next-less-2 Inv-loop μ-loop Inv-loop2 μ-loop2 Inv-next μ-next
 next-less-2 c = search needs
 
 next-again-2 : tie.Need-next-again-2 Inv-loop μ-loop Inv-loop2 μ-loop2 Inv-next μ-next
-next-again-2 c = look-next (c .before .before .before .before .before .before .before .before .before .next .inv) (c .before .before .before .before .before .before .before .before .if1 .left) (other-words (c .before .before .before .before .before .before .before .before .before .before .before .before .pre .innerRuns) (closed-runs (c .before .before .before .before .before .before .before .before .before .before .before .before .pre) (c .before .before .before .before .before .before .runs-of .ensures) (c .before .before .before .before .before .before .before .closed-span .ensures)) (c .if3 .taken))
+next-again-2 c =
+    let g = c .before .before .before .before .before .before .before .before .before .before .before .before .pre in
+    let o = closed-runs g (c .before .before .before .before .before .before .runs-of .ensures) (c .before .before .before .before .before .before .before .closed-span .ensures) in
+    look-next (c .before .before .before .before .before .before .before .before .before .next .inv) (c .before .before .before .before .before .before .before .before .if1 .left) (other-words (g .innerRuns) o (c .if3 .taken))
 
 loop-holds : tie.Need-loop-holds Inv-loop μ-loop Inv-loop2 μ-loop2 Inv-next μ-next
-loop-holds c = (search needs, pair-first (c .before .before .before .before .before .before .before .before .before .before .before .before .pre .innerRuns) (closed-runs (c .before .before .before .before .before .before .before .before .before .before .before .before .pre) (c .before .before .before .before .before .before .runs-of .ensures) (c .before .before .before .before .before .before .before .closed-span .ensures)) (c .before .before .before .if2 .left) (c .if3 .left))
+loop-holds c =
+    let g = c .before .before .before .before .before .before .before .before .before .before .before .before .pre in
+    (search needs, pair-first (g .innerRuns) (closed-runs g (c .before .before .before .before .before .before .runs-of .ensures) (c .before .before .before .before .before .before .before .closed-span .ensures)))
 
-add-if5 : tie.Need-add-if5 Inv-loop μ-loop Inv-loop2 μ-loop2 Inv-next μ-next
-add-if5 c = omega (arith, c .before .before .before .before .before .before .before .before .before .before .before .before .before .before .before .before .good)
+run-end-requires : tie.Need-run-end-requires Inv-loop μ-loop Inv-loop2 μ-loop2 Inv-next μ-next
+run-end-requires c κs = search needs
 
-shared-slice-read-if5 : tie.Need-shared-slice-read-if5 Inv-loop μ-loop Inv-loop2 μ-loop2 Inv-next μ-next
-shared-slice-read-if5 c = search needs
-
-add-if5-2 : tie.Need-add-if5-2 Inv-loop μ-loop Inv-loop2 μ-loop2 Inv-next μ-next
-add-if5-2 c = omega (arith, c .before .before .before .before .before .before .before .before .before .before .before .before .before .before .before .before .before .before .good)
-
-shared-slice-read-if5-2 : tie.Need-shared-slice-read-if5-2 Inv-loop μ-loop Inv-loop2 μ-loop2 Inv-next μ-next
-shared-slice-read-if5-2 c = search needs
+same-bytes-requires : tie.Need-same-bytes-requires Inv-loop μ-loop Inv-loop2 μ-loop2 Inv-next μ-next
+same-bytes-requires c κs =
+    let l = c .before .before .before in
+    let d = l .before in
+    let p = l .loop .inv .1 in
+    (record { sizes = d .before .before .before .if2 .left; counts = d .if3 .left }, (p .other .bytesIn, p .own .bytesIn, search needs, search needs))
 
 next-less-3 : tie.Need-next-less-3 Inv-loop μ-loop Inv-loop2 μ-loop2 Inv-next μ-next
 next-less-3 c = search needs
 
 next-again-3 : tie.Need-next-again-3 Inv-loop μ-loop Inv-loop2 μ-loop2 Inv-next μ-next
-next-again-3 c = look-next (c .before .before .before .before .before .before .before .before .before .before .before .before .before .before .before .before .before .next .inv) (c .before .before .before .before .before .before .before .before .before .before .before .before .before .before .before .before .if1 .left) (bytes-differ (c .before .before .before .before .before .before .before .loop .inv .1) (c .before .before .before .before .before .if4 .taken) (c .if5 .taken))
-
-add-j : tie.Need-add-j Inv-loop μ-loop Inv-loop2 μ-loop2 Inv-next μ-next
-add-j c = search needs
+next-again-3 c =
+    let l = c .before .before .before .before .before in
+    let d = l .before in
+    look-next (d .before .before .before .before .before .before .before .before .before .next .inv) (d .before .before .before .before .before .before .before .before .if1 .left)
+    (bytes-differ (l .loop .inv .1) (record { sizes = d .before .before .before .if2 .left; counts = d .if3 .left }) (search needs) (search needs) (c .before .same-bytes .ensures) (not-true _ (c .if5 .taken)))
 
 loop-less : tie.Need-loop-less Inv-loop μ-loop Inv-loop2 μ-loop2 Inv-next μ-next
 loop-less c = search needs
 
 loop-again : tie.Need-loop-again Inv-loop μ-loop Inv-loop2 μ-loop2 Inv-next μ-next
-loop-again c = (search needs, pair-byte (c .before .before .before .before .before .before .before .loop .inv .1) (c .before .before .before .before .before .if4 .taken) (c .if5 .left))
+loop-again c =
+    let l = c .before .before .before .before .before in
+    let d = l .before in
+    (search needs, pair-bytes (l .loop .inv .1) (record { sizes = d .before .before .before .if2 .left; counts = d .if3 .left }) (search needs) (search needs) (c .before .same-bytes .ensures) (not-false _ (c .if5 .left)))
 
 loop2-holds : tie.Need-loop2-holds Inv-loop μ-loop Inv-loop2 μ-loop2 Inv-next μ-next
 loop2-holds c = (search needs, c .before .before .loop .inv .1)
 
-add-if7 : tie.Need-add-if7 Inv-loop μ-loop Inv-loop2 μ-loop2 Inv-next μ-next
-add-if7 c = omega (arith, c .before .before .before .before .before .before .before .before .before .before .before .before .before .before .before .before .before .before .before .good)
+run-end-requires-2 : tie.Need-run-end-requires-2 Inv-loop μ-loop Inv-loop2 μ-loop2 Inv-next μ-next
+run-end-requires-2 c κs = search needs
 
-mul-if7 : tie.Need-mul-if7 Inv-loop μ-loop Inv-loop2 μ-loop2 Inv-next μ-next
-mul-if7 c = omega (arith, c .before .before .before .before .before .before .before .before .before .before .before .before .before .before .before .before .before .before .before .good)
-
-shared-slice-read-if7 : tie.Need-shared-slice-read-if7 Inv-loop μ-loop Inv-loop2 μ-loop2 Inv-next μ-next
-shared-slice-read-if7 c = search needs
-
-add-if7-2 : tie.Need-add-if7-2 Inv-loop μ-loop Inv-loop2 μ-loop2 Inv-next μ-next
-add-if7-2 c = omega (arith, c .before .before .before .before .before .before .before .before .before .before .before .before .before .before .before .before .before .before .before .before .before .good)
-
-mul-if7-2 : tie.Need-mul-if7-2 Inv-loop μ-loop Inv-loop2 μ-loop2 Inv-next μ-next
-mul-if7-2 c = omega (arith, c .before .before .before .before .before .before .before .before .before .before .before .before .before .before .before .before .before .before .before .before .before .good)
-
-shared-slice-read-if7-2 : tie.Need-shared-slice-read-if7-2 Inv-loop μ-loop Inv-loop2 μ-loop2 Inv-next μ-next
-shared-slice-read-if7-2 c = search needs
+same-words-requires : tie.Need-same-words-requires Inv-loop μ-loop Inv-loop2 μ-loop2 Inv-next μ-next
+same-words-requires c κs =
+    let l = c .before .before .before in
+    let d = l .before .before .before .before in
+    let p = l .loop2 .inv .1 in
+    (record { sizes = d .before .before .before .if2 .left; counts = d .if3 .left }, (p .other .wordsIn, p .own .wordsIn, search needs, search needs))
 
 next-less-4 : tie.Need-next-less-4 Inv-loop μ-loop Inv-loop2 μ-loop2 Inv-next μ-next
 next-less-4 c = search needs
 
 next-again-4 : tie.Need-next-again-4 Inv-loop μ-loop Inv-loop2 μ-loop2 Inv-next μ-next
-next-again-4 c = look-next (c .before .before .before .before .before .before .before .before .before .before .before .before .before .before .before .before .before .before .before .before .next .inv) (c .before .before .before .before .before .before .before .before .before .before .before .before .before .before .before .before .before .before .before .if1 .left) (words-differ (c .before .before .before .before .before .before .before .loop2 .inv .1) (c .before .before .before .before .before .if6 .taken) (c .if7 .taken))
-
-add-k : tie.Need-add-k Inv-loop μ-loop Inv-loop2 μ-loop2 Inv-next μ-next
-add-k c = search needs
+next-again-4 c =
+    let l = c .before .before .before .before .before in
+    let d = l .before .before .before .before in
+    look-next (d .before .before .before .before .before .before .before .before .before .next .inv) (d .before .before .before .before .before .before .before .before .if1 .left)
+    (words-differ (l .loop2 .inv .1) (record { sizes = d .before .before .before .if2 .left; counts = d .if3 .left }) (search needs) (search needs) (c .before .same-words .ensures) (not-true _ (c .if7 .taken)))
 
 loop2-less : tie.Need-loop2-less Inv-loop μ-loop Inv-loop2 μ-loop2 Inv-next μ-next
 loop2-less c = search needs
 
 loop2-again : tie.Need-loop2-again Inv-loop μ-loop Inv-loop2 μ-loop2 Inv-next μ-next
-loop2-again c = (search needs, pair-word (c .before .before .before .before .before .before .before .loop2 .inv .1) (c .before .before .before .before .before .if6 .taken) (c .if7 .left))
+loop2-again c =
+    let l = c .before .before .before .before .before in
+    let d = l .before .before .before .before in
+    (search needs, pair-words (l .loop2 .inv .1) (record { sizes = d .before .before .before .if2 .left; counts = d .if3 .left }) (search needs) (search needs) (c .before .same-words .ensures) (not-false _ (c .if7 .left)))
 
-cast-t31 : tie.Need-cast-t31 Inv-loop μ-loop Inv-loop2 μ-loop2 Inv-next μ-next
-cast-t31 c = omega (arith, c .before .before .before .before .before .before .before .before .before .before .before .before .before .before .before .before .before .before .pre .tested)
+cast-t21 : tie.Need-cast-t21 Inv-loop μ-loop Inv-loop2 μ-loop2 Inv-next μ-next
+cast-t21 c = omega (arith, c .before .before .before .before .before .before .before .before .before .before .before .before .before .before .before .before .before .before .pre .tested)
 
 returns : tie.Need-returns Inv-loop μ-loop Inv-loop2 μ-loop2 Inv-next μ-next
 returns c = look-none (c .before .next .inv) (c .if1 .taken)
 
 returns-2 : tie.Need-returns-2 Inv-loop μ-loop Inv-loop2 μ-loop2 Inv-next μ-next
-returns-2 c = look-here (c .before .before .before .before .before .before .before .before .before .before .before .before .before .before .before .next .inv) (c .before .before .before .before .before .before .before .before .before .before .before .before .before .before .if1 .left) (pair-same (c .before .before .loop2 .inv .1) (c .before .before .before .if4 .left) (c .if6 .left))
+returns-2 c =
+    let l = c .before .before in
+    let d = l .before .before .before .before in
+    look-here (d .before .before .before .before .before .before .before .before .before .next .inv) (d .before .before .before .before .before .before .before .before .if1 .left)
+    (pair-same (l .loop2 .inv .1) (record { sizes = d .before .before .before .if2 .left; counts = d .if3 .left }) (l .before .if4 .left) (c .if6 .left))
 
 pub seek-spec : {M : Type 1} → statement M
 seek-spec =
@@ -142,7 +153,7 @@ seek-spec =
     Inv-next
     μ-next
     next-holds
-    cast-t13
+    cast-t15
     add-i
     closed-span-requires
     runs-of-requires
@@ -151,27 +162,19 @@ seek-spec =
     next-less-2
     next-again-2
     loop-holds
-    add-if5
-    shared-slice-read-if5
-    add-if5-2
-    shared-slice-read-if5-2
+    run-end-requires
+    same-bytes-requires
     next-less-3
     next-again-3
-    add-j
     loop-less
     loop-again
     loop2-holds
-    add-if7
-    mul-if7
-    shared-slice-read-if7
-    add-if7-2
-    mul-if7-2
-    shared-slice-read-if7-2
+    run-end-requires-2
+    same-words-requires
     next-less-4
     next-again-4
-    add-k
     loop2-less
     loop2-again
-    cast-t31
+    cast-t21
     returns
     returns-2)
