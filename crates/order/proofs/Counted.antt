@@ -12,11 +12,10 @@ use borrow.Author.Tests.{eq-eqb, ne-eqb, lt-ltb, le-ltb}
 use Rattle.lists.specs.Lists.{pick}
 use Rattle.model.specs.Bag.{count, without, zerosOf, lastOnce, leads, least}
 use Rattle.model.specs.Object.{Link}
-use Rattle.model.specs.Graph.{Graph, kids, kidsOf, waits, reached, reachDown, Acyclic}
+use Rattle.model.specs.Graph.{Graph, kids, kidsOf, waits, reached, reachDown, Rooted}
 use Rattle.model.specs.Order.{orderFrom, orderBy}
 use Rattle.model.proofs.Bags.{Same, same, other, sameOr, Zero, none, some, zeroOr, one-same, one-eq, count-append, count-without, length-without, least-in}
 use Rattle.model.proofs.Waits.{waits-without}
-use Rattle.model.proofs.Reach.{reached-rooted}
 use Rattle.model.proofs.Orders.{Inv, next-free, next-inv, length-left, rooted-inv}
 use Rattle.order_ready.specs.Ready.{Queue, leastFrom, leastAt, removeAt, released}
 use Rattle.order_place.specs.Run.{releasedAll, placing, runOrder}
@@ -209,9 +208,9 @@ down-length g (suc i) m = go (eqb (count i m) 0) (down-length g i m) (down-lengt
     go true a b = omega arith
     go false a b = omega arith
 
-module _ (g : Graph) (y : Acyclic g) (root : ℕ) where
+module _ (g : Graph) (root : ℕ) (r : Rooted g (reached g root) root) where
   begin : Inv g (reached g root) (root ∷ [])
-  begin = rooted-inv g (reached g root) root (reached-rooted g root y)
+  begin = rooted-inv g (reached g root) root r
 
   pub orders-agree : (key also : ℕ → ℕ) → ((c : ℕ) → 0 < count c (reached g root) → key c ≡ also c) → orderBy key g root ≡ orderBy also g root
   unfolding orderBy

@@ -5,11 +5,11 @@ use mathlib.Core.List.{List}
 use native.Mathlib.Omega.{arith}
 use lib.ListN.{getD-replicate}
 use Rattle.model.specs.Bag.{count}
-use Rattle.model.specs.Graph.{Graph, reached, Acyclic, Closed, Once}
+use Rattle.model.specs.Graph.{Graph, reached, Ranked, Rooted, Closed, Once}
 use Rattle.model.specs.Order.{orderBy}
 use Rattle.model.specs.Distance.{distance, kahnOrder, distanceOrder}
-use Rattle.model.proofs.Reach.{reached-rooted, reached-low}
-use Rattle.model.proofs.Orders.{orderBy-once}
+use Rattle.model.proofs.Reach.{reached-low}
+use Rattle.model.proofs.Orders.{order-counts}
 use Rattle.work.specs.Views.{keyIn}
 use Rattle.work.specs.declared.Areas.{Areas}
 use Rattle.order_graph.specs.Graph.{graphOn}
@@ -29,17 +29,18 @@ unfolding kahnOrder distanceOrder
 with-key By.Readiness g root = refl
 with-key By.Distance g root = refl
 
-module _ (by : By) (g : Graph) (y : Acyclic g) (root : ℕ) where
+module _ (by : By) (g : Graph) (rank : ℕ → ℕ) (y : Ranked rank g) (root : ℕ) (r : Rooted g (reached g root) root) where
   pub with-counts : (c : ℕ) → count c (orderWith by g root) ≡ count c (reached g root)
-  with-counts c = rw (with-key by g root) (orderBy-once (keyWith by g root) g y root c)
+  unfolding orderBy
+  with-counts c = rw (with-key by g root) (order-counts rank (keyWith by g root) g y (reached g root) root r c)
 
   pub with-once : Once (orderWith by g root)
   unfolding Once
-  with-once c = omega (arith, with-counts c, reached-rooted g root y .once c)
+  with-once c = omega (arith, with-counts c, r .once c)
 
   pub with-closed : Closed g (orderWith by g root)
   unfolding Closed
-  with-closed p c h k = rw (with-counts c) (reached-rooted g root y .closed p c (rw (with-counts p) at h) k)
+  with-closed p c h k = rw (with-counts c) (r .closed p c (rw (with-counts p) at h) k)
 
   pub with-low : (c : ℕ) → 0 < count c (orderWith by g root) → c ≤ root
   with-low c h = omega (arith, reached-low g root c (rw (with-counts c) at h))
@@ -51,4 +52,4 @@ module _ {a : Areas} {n root : ℕ} {w w′ : List ℕ} (t : Surveyed a n root w
   filled-key By.Distance k c h = rw (k .keys) (t .distances c h)
 
   pub filled-order : {by : By} → Keyed a by w w′ → orderBy (keyIn a w′) (graphOn a n w) root ≡ orderWith by (graphOn a n w) root
-  filled-order {by} k = rw (with-key by (graphOn a n w) root) (orders-agree (graphOn a n w) (t .falls) root (keyIn a w′) (keyWith by (graphOn a n w) root) (filled-key by k))
+  filled-order {by} k = rw (with-key by (graphOn a n w) root) (orders-agree (graphOn a n w) root (t .rooted) (keyIn a w′) (keyWith by (graphOn a n w) root) (filled-key by k))

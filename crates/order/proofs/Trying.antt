@@ -9,7 +9,6 @@ use Rattle.regions.proofs.Laws.{region-length}
 use Rattle.regions.proofs.Frame.{kept-then, kept-less, kept-above}
 use Rattle.model.specs.Bag.{count}
 use Rattle.model.specs.Graph.{Graph}
-use Rattle.model.proofs.Reach.{reached-rooted}
 use Rattle.work.specs.Areas.{Apart}
 use Rattle.work.specs.Views.{orderIn, placesIn, incomingIn, keyIn}
 use Rattle.work.specs.declared.Areas.{Areas}
@@ -53,7 +52,7 @@ module _ {a : Areas} {n root : ℕ} {by : By} {w w₁ : List ℕ} (t : Surveyed 
       record {
         graph = stands-kept (t .graph) (k .kept) (omega arith);
         inside = t .inside;
-        free = rw incoming-same (t .incoming root ∙ reached-rooted g root (t .falls) .root-free);
+        free = rw incoming-same (t .incoming root ∙ t .rooted .root-free);
       }
 
   module _ {r : ℕ} {w₂ : List ℕ} (o : OrderFound a n root r w₁ w₂) where
@@ -66,7 +65,7 @@ module _ {a : Areas} {n root : ℕ} {by : By} {w w₁ : List ℕ} (t : Surveyed 
     order₂ : orderIn a r w₂ ≡ orderWith by g root
     order₂ =
         o .order
-        ∙ rw (graph₁, incoming-same, run-order g (t .falls) root (keyIn a w₁) (a .nodes) (incomingIn a w) (omega arith) (t .incoming)) (filled-order t k)
+        ∙ rw (graph₁, incoming-same, run-order g root (t .rooted) (keyIn a w₁) (a .nodes) (incomingIn a w) (omega arith) (t .incoming)) (filled-order t k)
 
     -- ---- its places, and the first link that does not fit
 
@@ -92,12 +91,12 @@ module _ {a : Areas} {n root : ℕ} {by : By} {w w₁ : List ℕ} (t : Surveyed 
 
       inside : (c : ℕ) → 0 < count c (orderWith by g root) → c < length (placesIn a w₂)
       inside c h =
-          omega (arith, with-low by g (t .falls) root c h, region-length (a .places) (a .nodes) w₂ (omega (arith, try-placing .graph .long, try-placing .graph .apart)))
+          omega (arith, with-low by g (t .rank) (t .ranked) root (t .rooted) c h, region-length (a .places) (a .nodes) w₂ (omega (arith, try-placing .graph .long, try-placing .graph .apart)))
 
       pub try-all : {x : Look} → x ≡ look (graphOn a n w₃) (placesIn a w₃) (orderIn a r w₃) → Tried a n root by r x w w₃
       try-all e =
-          let once = with-once by g (t .falls) root in
-          let closed = with-closed by g (t .falls) root in
+          let once = with-once by g (t .rank) (t .ranked) root (t .rooted) in
+          let closed = with-closed by g (t .rank) (t .ranked) root (t .rooted) in
           record {
             kept =
                 kept-then (kept-less (k .kept) (a .keys) (a .incoming) (omega arith) (omega arith))

@@ -88,7 +88,9 @@ module _ {a : Areas} {n root r : ℕ} {w w₁ : List ℕ} (s : AtNode a n root w
           surveyed = record {
             graph = stands-kept (s .graph) survey-kept (omega arith);
             inside = s .inside;
-            falls = rw front y;
+            rank = λ i. i;
+            ranked = rw front y;
+            rooted = rw front (reached-rooted graph root y);
             incoming = λ c. rw front (incoming c);
             distances = λ c k. rw front (distances c (rw front at k));
           };
@@ -104,7 +106,9 @@ surveyed-kept {a} s k =
     record {
       graph = stands-kept (s .graph) k (omega arith);
       inside = s .inside;
-      falls = rw front (s .falls);
+      rank = s .rank;
+      ranked = rw front (s .ranked);
+      rooted = rw front (s .rooted);
       incoming = λ c. rw (front, same-incoming) (s .incoming c);
       distances = λ c h. rw (front, same-distances) (s .distances c (rw front at h));
     }

@@ -9,7 +9,7 @@ use Rattle.regions.specs.Region.{ceiling, Kept}
 use Rattle.lists.specs.Lists.{pick}
 use Rattle.model.specs.Object.{Link}
 use Rattle.model.specs.Bag.{count}
-use Rattle.model.specs.Graph.{Graph, waits, reached, Acyclic}
+use Rattle.model.specs.Graph.{Graph, waits, reached, Ranked, Rooted}
 use Rattle.model.specs.Distance.{weight, relax, relaxAll, distancesBy, distance}
 use Rattle.model.specs.Table.{tableLength}
 use Rattle.work.specs.declared.Areas.{Areas}
@@ -94,12 +94,14 @@ pub record DistancesSet (a : Areas) (n root r : ℕ) (w w′ : List ℕ) : Type 
   pub kept : Kept (a .distances) (a .end) w w′
   pub distances : distancesIn a w′ ≡ distancesBy farAway (weight (graphOn a n w)) (graphOn a n w) (lineIn a r w) (a .nodes) root
 
--- ---- the whole: by the model's definitions, of a graph in which children have lower ids
+-- ---- the whole, by the model's definitions. What the orders lean on is that the root's nodes are all there and that children rank below their parents
 
 pub record Surveyed (a : Areas) (n root : ℕ) (w : List ℕ) : Type 0 where
   pub graph : Stands a n w
   pub inside : root < n
-  pub falls : Acyclic (graphOn a n w)
+  pub rank : ℕ → ℕ
+  pub ranked : Ranked rank (graphOn a n w)
+  pub rooted : Rooted (graphOn a n w) (reached (graphOn a n w) root) root
   pub incoming : (c : ℕ) → getD (incomingIn a w) c 0 ≡ waits (graphOn a n w) (reached (graphOn a n w) root) c
   pub distances : (c : ℕ) → 0 < count c (reached (graphOn a n w) root) → getD (distancesIn a w) c 0 ≡ distance (graphOn a n w) root c
 

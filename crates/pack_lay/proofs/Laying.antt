@@ -9,7 +9,7 @@ use Rattle.lists.proofs.Runs.{over-none}
 use Rattle.regions.proofs.Frame.{kept-then}
 use Rattle.answer.specs.declared.Overflow.{Overflow}
 use Rattle.model.specs.Bag.{count}
-use Rattle.model.specs.Graph.{Graph, graphOf, Acyclic}
+use Rattle.model.specs.Graph.{Graph, graphOf, reached, Ranked, Rooted}
 use Rattle.model.specs.Distance.{kahnOrder, distanceOrder}
 use Rattle.model.specs.Table.{placeOf, unfit, Outcome, placed, overflow, tryOrder, tryLast, firstFit, arranged, tableLength}
 use Rattle.model.specs.Session.{tableIn}
@@ -63,8 +63,11 @@ module _ {b w : List ℕ} {s : State} {a : Areas} {root room : ℕ} {m : List �
   abbrev g : Graph
   g = graphOf (decode b w .closed)
 
-  acyclic : Acyclic g
-  acyclic = rw (c .stands .same) at (c .stands .falls)
+  ranked : Ranked (c .surveyed .rank) g
+  ranked = rw (c .stands .same) at (c .surveyed .ranked)
+
+  rooted : Rooted g (reached g root) root
+  rooted = rw (c .stands .same) at (c .surveyed .rooted)
 
   module _ {by : By} {r : ℕ} {x : Look} {m′ : List ℕ} (t : Tried a (s .closed) root by r x m m′) where
     order-is : orderIn a r m′ ≡ orderWith by g root
@@ -83,10 +86,10 @@ module _ {b w : List ℕ} {s : State} {a : Areas} {root room : ℕ} {m : List �
           read = c .read;
           stands = standing-kept (c .stands) (t .kept) (omega arith);
           nodes = t .nodes;
-          once = rw order-is (with-once by g acyclic root);
-          closed = rw order-is (with-closed by g acyclic root);
+          once = rw order-is (with-once by g _ ranked root rooted);
+          closed = rw order-is (with-closed by g _ ranked root rooted);
           places = rw order-is places-are;
-          fits = rw order-is (unfold tableLength in omega (arith, total-bag (g .size) _ _ (with-counts by g acyclic root), c .fits));
+          fits = rw order-is (unfold tableLength in omega (arith, total-bag (g .size) _ _ (with-counts by g _ ranked root rooted), c .fits));
         }
 
     lay-told : x ≡ lookIn (oneOrder b w root by)
