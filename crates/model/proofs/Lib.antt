@@ -20,4 +20,5 @@ pub mod Refusals
 pub mod Fair
 pub mod Closings
 pub mod Written
+pub mod Refused
 pub mod Cases
