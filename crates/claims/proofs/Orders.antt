@@ -11,9 +11,9 @@ use Rattle.lists.specs.Lists.{over}
 use Rattle.answer.specs.Number.{number}
 use Rattle.answer.specs.declared.Overflow.{Overflow}
 use Rattle.answer.specs.declared.Refusal.the-variants as Refusal
-use Rattle.model.specs.Distance.{kahnOrder, distanceOrder}
+use Rattle.model.specs.Distance.{kahnOrder}
 use Rattle.model.specs.Graph.{Graph}
-use Rattle.model.specs.Table.{Outcome, placed, overflow, arranged, tableLength, ordersOf, FirstFit, NoneFits}
+use Rattle.model.specs.Table.{Outcome, placed, overflow, arranged, tableLength, laterOrders, ordersOf, FirstFit, NoneFits}
 use Rattle.model.specs.Judge.{Verdict, accepted, refused, numberOf, Test, Tells, none, this, next, verdict, overflows, packTests}
 use Rattle.model.specs.Told.{donePack, refusal, toldByPack}
 use Rattle.model.proofs.Outcomes.{Seen, fit, unfits, seen, fit-placed, none-placed}
@@ -33,15 +33,15 @@ use Rattle.claims.proofs.Packs.{placed-laid}
 module _ (g : Graph) (root : ℕ) where
   seen-arranged : Seen g (ordersOf g root) (arranged g root)
   unfolding arranged
-  seen-arranged = seen g (kahnOrder g root) (distanceOrder g root ∷ [])
+  seen-arranged = seen g (kahnOrder g root) (laterOrders g root)
 
   chosen-arranged : {o : List ℕ} → FirstFit g o (ordersOf g root) → arranged g root ≡ placed o
   unfolding arranged
-  chosen-arranged f = fit-placed g (kahnOrder g root) (distanceOrder g root ∷ []) f
+  chosen-arranged f = fit-placed g (kahnOrder g root) (laterOrders g root) f
 
   unfit-arranged : {v : Overflow} → NoneFits g v (ordersOf g root) → arranged g root ≡ overflow v
   unfolding arranged
-  unfit-arranged f = none-placed g (kahnOrder g root) (distanceOrder g root ∷ []) f
+  unfit-arranged f = none-placed g (kahnOrder g root) (laterOrders g root) f
 
 -- ---- a pack
 

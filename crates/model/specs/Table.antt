@@ -58,14 +58,17 @@ unfoldable pub firstFit : Graph → List ℕ → List (List ℕ) → Outcome
 firstFit g o [] = tryLast (unfit g o) o
 firstFit g o (p ∷ ps) = tryOrder (unfit g o) o (firstFit g p ps)
 
+-- the orders that a pack tries after the kahn order, in turn
+abbrev pub laterOrders : Graph → ℕ → List (List ℕ)
+laterOrders g root = distanceOrder g root ∷ []
+
 unfoldable pub arranged : Graph → ℕ → Outcome
-arranged g root = firstFit g (kahnOrder g root) (distanceOrder g root ∷ [])
+arranged g root = firstFit g (kahnOrder g root) (laterOrders g root)
 
 -- ---- the same as facts about a list of orders
 
--- the orders that a pack tries, in turn
 abbrev pub ordersOf : Graph → ℕ → List (List ℕ)
-ordersOf g root = kahnOrder g root ∷ distanceOrder g root ∷ []
+ordersOf g root = kahnOrder g root ∷ laterOrders g root
 
 -- o is the first of the list in which every link fits
 pub data FirstFit (g : Graph) (o : List ℕ) : List (List ℕ) → Type 0 where
