@@ -29,9 +29,12 @@ sizeOf o = length (o .bytes)
 abbrev pub linkCount : Object → ℕ
 linkCount o = length (o .links)
 
+abbrev pub widest : ℕ
+widest = 4
+
 -- the widths that a field may have
 abbrev pub widthOk : ℕ → Bool
-widthOk w = eqb w 2 || eqb w 4
+widthOk w = eqb w 2 || eqb w widest
 
 -- bytes appended
 abbrev pub withBytes : List ℕ → Object → Object

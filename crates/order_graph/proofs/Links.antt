@@ -1,28 +1,20 @@
 -- The words of a node's links, read from the whole memory; and a node's links one by one.
-use mathlib.Core.Path.{_≡_, refl, sym}
+use mathlib.Core.Path.{_≡_, sym}
 use Prim.Native.Nat.{ℕ, suc, _+_, _-_, _*_, _≤_, _<_}
 use mathlib.Core.List.{List, [], _∷_}
-use mathlib.Core.Bool.{Bool, true, false, _||_}
 use native.Mathlib.Omega.{arith}
-use lib.Dec.{eqb}
 use lib.ListN.{getD, take}
 use lib.Seq.{getD-take}
-use borrow.Author.Tests.{eqb-true, lt-ltb}
+use borrow.Author.Tests.{lt-ltb}
 use Rattle.big_endian.specs.BigEndian.{capacity}
 use Rattle.big_endian.proofs.Laws.{capacity-rises}
-use Rattle.model.specs.Object.{widthOk}
+use Rattle.model.specs.Object.{widest}
+use Rattle.model.proofs.Widths.{width-most}
 use Rattle.model.specs.Words.{linkWords}
 use Rattle.regions.specs.Region.{Kept}
 use Rattle.regions.proofs.Frame.{kept-less}
 use Rattle.work.specs.declared.Areas.{Areas}
 use Rattle.order_graph.specs.Graph.{graphIn, linkOf, linksAt, linksFrom, linksAfter, linkCount, Stands, AtNode, AtLink, FieldOf, EdgeOf}
-
-pub width-narrow : (w : ℕ) → widthOk w ≡ true → w ≤ 4
-width-narrow w e = go (eqb w 2) refl e
-  where
-    go : (b : Bool) → eqb w 2 ≡ b → (b || eqb w 4) ≡ true → w ≤ 4
-    go true a k = omega (arith, eqb-true w 2 a)
-    go false a k = omega (arith, eqb-true w 4 k)
 
 pub count-word : {a : Areas} {n i : ℕ} {w : List ℕ} → AtNode a n i w → getD w (a .counts + i) 0 ≡ linkCount a (take (a .keys) w) i
 count-word {a} {n} {i} {w} s = sym (getD-take (a .keys) w (a .counts + i) 0 (omega arith))
@@ -48,7 +40,7 @@ module _ {a : Areas} {n i t : ℕ} {w : List ℕ} (s : AtLink a n i t w) where
         at-is = rw e (sym (getD-take g w _ 0 (omega arith)));
         width-is = width-is;
         child-is = child-is;
-        narrow = omega (arith, width-narrow (linkOf a (take g w) i t .width) (o .wide t (s .some)));
+        narrow = omega (arith, width-most (linkOf a (take g w) i t .width) (o .wide t (s .some)));
         known = omega (arith, o .known t (s .some));
       }
 
@@ -62,7 +54,7 @@ module _ {a : Areas} {n i t : ℕ} {w : List ℕ} (s : AtLink a n i t w) where
         child-is = f .child-is;
         known = f .known;
         weight-is = rw (← f .child-is, ← f .width-is, lt-ltb child n b, size, e);
-        light = omega (arith, d .light child b, capacity-rises width 4 (f .narrow));
+        light = omega (arith, d .light child b, capacity-rises width widest (f .narrow));
       }
 
 -- the graph stands, and is the same, while nothing in front changes

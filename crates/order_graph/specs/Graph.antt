@@ -7,7 +7,7 @@ use lib.ListN.{length, getD, take}
 use lib.Dec.{ltb}
 use Rattle.lists.specs.Lists.{pick}
 use Rattle.answer.specs.declared.ObjectId.{ObjectId}
-use Rattle.model.specs.Object.{Link, widthOk}
+use Rattle.model.specs.Object.{Link, widest, widthOk}
 use Rattle.model.specs.Words.{linkWords, linkAt}
 use Rattle.model.specs.Graph.{Graph}
 use Rattle.model.specs.Distance.{weight}
@@ -98,7 +98,7 @@ pub record FieldOf (a : Areas) (n : ℕ) (f : List ℕ) (i t at width child : �
   pub at-is : at ≡ linkOf a f i t .at
   pub width-is : width ≡ linkOf a f i t .width
   pub child-is : child ≡ linkOf a f i t .child
-  pub narrow : width ≤ 4
+  pub narrow : width ≤ widest
   pub known : child < n
 
 -- its child and its weight

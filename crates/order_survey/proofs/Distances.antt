@@ -8,15 +8,15 @@ use lib.ListN.{length, getD, replicate, length-set, length-replicate}
 use borrow.Author.Tests.{le-ltb, lt-ltb}
 use Rattle.big_endian.proofs.Laws.{capacity-rises}
 use Rattle.model.specs.Bag.{count}
-use Rattle.model.specs.Object.{Link}
+use Rattle.model.specs.Object.{Link, widest}
 use Rattle.model.specs.Words.{linkWords, linkAt}
 use Rattle.model.specs.Graph.{Graph, reached, Ranked, Acyclic}
 use Rattle.model.specs.Distance.{In, here, there, Path, start, along, Least, weight, distancesBy, distance}
+use Rattle.model.proofs.Widths.{width-most}
 use Rattle.model.proofs.Reach.{reached-rooted, reached-first, reached-low}
 use Rattle.model.proofs.Distances.{in-kids, all-length, distance-least, distance-is-least}
 use Rattle.work.specs.declared.Areas.{Areas}
 use Rattle.order_graph.specs.Graph.{graphIn, linksFrom, linksAt, linkCount, linkOf, mostNodes, mostWeight, Tidy}
-use Rattle.order_graph.proofs.Links.{width-narrow}
 use Rattle.order_survey.specs.Survey.{farAway}
 use Rattle.order_survey.proofs.Lowers.{getD-inside}
 
@@ -53,7 +53,7 @@ tidy-light {a} {n} {f} s i l k = node-links a n f (λ m. weight (graphIn a n f) 
     light b t h =
         let o = s .node i b in
         let c = linkOf a f i t .child in
-        rw (lt-ltb c n (o .known t h)) (omega (arith, s .light c (o .known t h), capacity-rises (linkOf a f i t .width) 4 (width-narrow (linkOf a f i t .width) (o .wide t h))))
+        rw (lt-ltb c n (o .known t h)) (omega (arith, s .light c (o .known t h), capacity-rises (linkOf a f i t .width) widest (width-most (linkOf a f i t .width) (o .wide t h))))
 
 -- ---- no path is as long as `farAway`
 

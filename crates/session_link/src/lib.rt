@@ -15,13 +15,14 @@ use sound_fields::width_ok;
 ghost use mathlib.Core.Path.{_≡_};
 ghost use mathlib.Core.Bool.{true};
 ghost use Prim.Native.Nat.{_≤_, _<_};
+ghost use Rattle.model.specs.Object.{widest};
 ghost use Rattle.layout.specs.Sound.{sound};
 ghost use Rattle.layout.specs.Known.{WordsRead};
 ghost use Rattle.steps.specs.Steps.{outcome, linkStep, linkWordsOf};
 
 // The field's zero bytes stand there already: only words change.
 fn append_link(records: &mut [u32], s: State, width: usize, id: ObjectId)
-    requires { ⌜ WordsRead (now records) s × (0 < s .depth) × (s .«link_top» < s .«link_low») × (width ≤ 4) ⌝ }
+    requires { ⌜ WordsRead (now records) s × (0 < s .depth) × (s .«link_top» < s .«link_low») × (width ≤ widest) ⌝ }
     ensures { λ _. ⌜ now (records .exit) ≡ linkWordsOf width (id .0) (now (records .entry)) ⌝ }
 {
     let d = s.depth;

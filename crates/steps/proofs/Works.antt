@@ -3,7 +3,6 @@ use mathlib.Core.Path.{_≡_}
 use Prim.Native.Nat.{ℕ, suc, _+_, _-_, _*_, _^_, _≤_, _<_}
 use mathlib.Core.List.{List, [], _∷_, append-assoc}
 use mathlib.Core.Bool.{Bool, true, false, not, _&&_, and-assoc, and-true, false≢true}
-use native.Mathlib.Decide.{decLe}
 use native.Mathlib.Nat.{sub-zero, add-zero}
 use native.Mathlib.Numerals.{add-one}
 use native.Mathlib.Omega.{arith}
@@ -204,14 +203,6 @@ module _ {b w : List ℕ} {s : State} {t : Tally} (h : Held b w s t) where
             pub link-done : width ≤ length b - t .bytes → outcome (Done (grown width 1 t)) b (linkWordsOf width id w) ≡ linkStep width id b w
             unfolding linkStep
             link-done k = rw (h .tallyIs) (settle-accepted b w (ready some (next wide (next known (next free (next (roomy width k) none))))))
-
--- a width that passes is small
-pub width-most : (n : ℕ) → not (widthOk n) ≡ false → n ≤ 4
-width-most n h = go (decLe n 4)
-  where
-    go : Dec (n ≤ 4) → n ≤ 4
-    go (yes k) = k
-    go (no k) = absurd (false≢true (rw (ne-eqb n 2 (λ e. omega arith), ne-eqb n 4 (λ e. omega arith)) at (not-false (widthOk n) h)))
 
 -- a link's record, stored word by word
 link-stored : (i : ℕ) (l : Link) (w : List ℕ) → i + 2 < length w → set (set (set w i (l .at)) (i + 1) (l .width)) (i + 2) (l .child) ≡ over i (wordsOf l) w

@@ -1,9 +1,11 @@
 -- Six ways: five refusals in their order, or a link is appended.
 use mathlib.Core.Path.{refl}
 use borrow.Author.Needs.{needs}
+use borrow.Author.Tests.{not-false}
+use Rattle.model.proofs.Widths.{width-most}
 use Rattle.layout.proofs.Facts.{words-read}
 use Rattle.steps.proofs.Held.{held, some-open, held-bytes, room-counted, link-apart}
-use Rattle.steps.proofs.Works.{link-none, link-width, link-child, link-full, link-room, link-done, width-most}
+use Rattle.steps.proofs.Works.{link-none, link-width, link-child, link-full, link-room, link-done}
 use Rattle.session_link.proofs.link_sound.Statement.{statement}
 use Rattle.session_link.proofs.link_sound.Tie as tie
 
@@ -88,7 +90,7 @@ append-link-requires c κs =
     let i1 = i2 .before .before in
     let k = i1 .before .before in
     let h = held (k .before .read .ensures) (k .tally-of .ensures) in
-    (words-read (h .counts), some-open (i1 .if1 .left), link-apart h (i4 .if4 .left), width-most _ (rw (i2 .before .width-ok .ensures) at (i2 .if2 .left)))
+    (words-read (h .counts), some-open (i1 .if1 .left), link-apart h (i4 .if4 .left), width-most _ (not-false _ (rw (i2 .before .width-ok .ensures) at (i2 .if2 .left))))
 
 grow-requires : tie.Need-grow-requires
 grow-requires c κs =
