@@ -70,6 +70,9 @@ module _ (b w : List ℕ) (h : sound b w ≡ true) (id : ℕ) (known : id < clos
         (some-bytes c (omega (arith, reached-low g id p (rw (once p) at k))))
         mostBytes (rw (total-bag (g .size) o (reached g id) once) reached-most) wide
 
-    -- width 4 always fits
+    -- widths 3 and 4 always fit
+    pub three-fits : l .width ≡ 3 → fits (l .width) (offset (placeOf g o) p l) ≡ true
+    three-fits e = wide-fits (rw e (omega arith))
+
     pub four-fits : l .width ≡ 4 → fits (l .width) (offset (placeOf g o) p l) ≡ true
     four-fits e = wide-fits (rw e (omega arith))

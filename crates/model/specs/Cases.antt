@@ -1,4 +1,4 @@
--- docs/RULES.md, section 9: the ten cases marked P and one more, on the abstract session, by one claim over a list of them; and 6.1, for link and pack.
+-- docs/RULES.md, section 9: the twelve cases marked P and two more, on the abstract session, by one claim over a list of them; and 6.1, for link and pack.
 use Prim.Native.Nat.{ℕ}
 use mathlib.Core.List.{List, [], _∷_, _++_}
 use mathlib.Core.Bool.{Bool, true, false, _&&_}
@@ -199,6 +199,31 @@ cases =
       counts = 4 ∷ 1 ∷ 2 ∷ 0 ∷ [];
       table = 0x00 ∷ 0x02 ∷ 0x00 ∷ 0x00 ∷ [];
     }
+    ∷ record {
+      limits = limitsOf 8 8 64;
+      calls = leaf (0x78 ∷ []) ++ (opens ∷ links 3 0 ∷ closes ∷ packCall 1 64 0 ∷ []);
+      numbers = 0 ∷ 0 ∷ 0 ∷ 0 ∷ 0 ∷ 0 ∷ 0 ∷ [];
+      ids = 0 ∷ 1 ∷ [];
+      counts = 4 ∷ 1 ∷ 2 ∷ 0 ∷ [];
+      table = 0x00 ∷ 0x00 ∷ 0x03 ∷ 0x78 ∷ [];
+    }
+    ∷ record {
+      limits = limitsOf 8 8 64;
+      calls = leaf (0x78 ∷ []) ++ (opens ∷ links 3 0 ∷ links 2 0 ∷ closes ∷ packCall 1 64 0 ∷ []);
+      numbers = 0 ∷ 0 ∷ 0 ∷ 0 ∷ 0 ∷ 0 ∷ 0 ∷ 0 ∷ [];
+      ids = 0 ∷ 1 ∷ [];
+      counts = 6 ∷ 2 ∷ 2 ∷ 0 ∷ [];
+      table = 0x00 ∷ 0x00 ∷ 0x05 ∷ 0x00 ∷ 0x05 ∷ 0x78 ∷ [];
+    }
+    -- no other width
+    ∷ record {
+      limits = limitsOf 8 8 64;
+      calls = leaf (0x78 ∷ []) ++ (opens ∷ links 0 0 ∷ links 1 0 ∷ links 5 0 ∷ links 258 0 ∷ []);
+      numbers = 0 ∷ 0 ∷ 0 ∷ 0 ∷ 3 ∷ 3 ∷ 3 ∷ 3 ∷ [];
+      ids = 0 ∷ [];
+      counts = 1 ∷ 0 ∷ 1 ∷ 1 ∷ [];
+      table = [];
+    }
     ∷ []
 
 -- ---- several refusals at once, of a link and of a pack: in each line those of all the lines below it apply too
@@ -209,9 +234,9 @@ holding depth = record { bytes = 1; links = 0; objects = 1; depth = depth }
 
 abbrev pub several : List (List Verdict)
 several =
-    (judgeLink false (limitsOf 1 0 1) (holding 0) 3 1
-    ∷ judgeLink true (limitsOf 1 0 1) (holding 0) 3 1
-    ∷ judgeLink true (limitsOf 1 0 1) (holding 1) 3 1
+    (judgeLink false (limitsOf 1 0 1) (holding 0) 5 1
+    ∷ judgeLink true (limitsOf 1 0 1) (holding 0) 5 1
+    ∷ judgeLink true (limitsOf 1 0 1) (holding 1) 5 1
     ∷ judgeLink true (limitsOf 1 0 1) (holding 1) 2 1
     ∷ judgeLink true (limitsOf 1 0 1) (holding 1) 2 0
     ∷ judgeLink true (limitsOf 1 1 1) (holding 1) 2 0

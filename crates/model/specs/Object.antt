@@ -1,9 +1,9 @@
 -- docs/RULES.md, section 2: an object is a run of bytes with links; each link has an offset field among the bytes.
 use Prim.Native.Nat.{ℕ}
 use mathlib.Core.List.{List, [], _∷_, _++_}
-use mathlib.Core.Bool.{Bool, _&&_, _||_}
+use mathlib.Core.Bool.{Bool, _&&_}
 use lib.ListN.{length, getD, replicate}
-use lib.Dec.{eqb}
+use lib.Dec.{eqb, leb}
 use Rattle.lists.specs.Lists.{sameList}
 
 -- the field's place in its object, its width in bytes, and the child's id
@@ -29,12 +29,16 @@ sizeOf o = length (o .bytes)
 abbrev pub linkCount : Object → ℕ
 linkCount o = length (o .links)
 
+-- how many bytes a field has at least and at most
+abbrev pub narrowest : ℕ
+narrowest = 2
+
 abbrev pub widest : ℕ
 widest = 4
 
 -- the widths that a field may have
 abbrev pub widthOk : ℕ → Bool
-widthOk w = eqb w 2 || eqb w widest
+widthOk w = leb narrowest w && leb w widest
 
 -- bytes appended
 abbrev pub withBytes : List ℕ → Object → Object

@@ -93,6 +93,24 @@ cases =
       distance = 2 ∷ 1 ∷ 0 ∷ [];
       unfit = [];
     }
+    -- width 3 weighs more than width 2
+    ∷ record {
+      sizes = 1 ∷ 10 ∷ 5 ∷ [];
+      links = [] ∷ [] ∷ (to 0 3 0 ∷ to 3 2 1 ∷ []) ∷ [];
+      root = 2;
+      kahn = 2 ∷ 0 ∷ 1 ∷ [];
+      distance = 2 ∷ 1 ∷ 0 ∷ [];
+      unfit = [];
+    }
+    -- and less than width 4
+    ∷ record {
+      sizes = 10 ∷ 1 ∷ 7 ∷ [];
+      links = [] ∷ [] ∷ (to 0 4 1 ∷ to 4 3 0 ∷ []) ∷ [];
+      root = 2;
+      kahn = 2 ∷ 1 ∷ 0 ∷ [];
+      distance = 2 ∷ 0 ∷ 1 ∷ [];
+      unfit = [];
+    }
     -- 65,535 fits width 2, so that the plain order stands
     ∷ record {
       sizes = 65531 ∷ 10 ∷ 4 ∷ [];

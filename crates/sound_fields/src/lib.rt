@@ -7,6 +7,8 @@ use layout::span::closed_span;
 use layout::span::open_span;
 use layout::words::LINKS_AT;
 use model::LINK_WORDS;
+use model::NARROWEST;
+use model::WIDEST;
 ghost use mathlib.Core.Path.{_≡_};
 ghost use Prim.Native.Nat.{_*_, _^_, _<_};
 ghost use lib.ListN.{length};
@@ -25,7 +27,7 @@ ghost use Rattle.layout.specs.Known.{Head};
 pub fn width_ok(width: usize) -> bool
     ensures { λ r. ⌜ r ≡ widthOk width ⌝ }
 {
-    (width == 2) | (width == 4)
+    (NARROWEST <= width) & (width <= WIDEST)
 }
 
 // One link's field.

@@ -1,0 +1,200 @@
+//! The seventeen cases counted by hand.
+
+mod common;
+
+use common::{told, Session};
+use reference::answer::Answer;
+
+/// Case 1 up to the last link, with the ids it gives.
+fn before_last_link(store: usize) -> (Session, [u64; 4]) {
+    let mut session = Session::new(4, 4, store);
+    let ids = [
+        session.piece(&[0x64], &[]),
+        session.piece(&[0x62], &[(2, 0)]),
+        session.piece(&[0x64], &[]),
+        session.piece(&[0x63], &[(2, 0)]),
+    ];
+    session.open();
+    session.put(&[0x61]);
+    assert_eq!(session.link(2, 1), told(0, [10, 3, 3, 1]));
+    (session, ids)
+}
+
+#[test]
+fn case_1() {
+    let (mut session, ids) = before_last_link(20);
+    assert_eq!(ids, [0, 1, 0, 2]);
+    assert_eq!(session.link(2, 2), told(0, [12, 4, 3, 1]));
+    let closed = session.close();
+    assert_eq!((closed.number, closed.id, closed.bytes), (0, 3, 12));
+    let packed = session.pack(3, 12);
+    assert_eq!(packed.answer.length, 12);
+    let table = [0x61, 0, 5, 0, 8, 0x62, 0, 6, 0x63, 0, 3, 0x64];
+    assert_eq!(packed.output, table);
+}
+
+#[test]
+fn case_2() {
+    let (mut short, _) = before_last_link(11);
+    assert_eq!(short.link(2, 2), told(6, [10, 3, 3, 1]));
+    assert_eq!(short.tally(), told(0, [10, 3, 3, 1]));
+    let (mut enough, _) = before_last_link(12);
+    assert_eq!(enough.link(2, 2), told(0, [12, 4, 3, 1]));
+}
+
+#[test]
+fn case_3() {
+    let mut session = Session::new(2, 2, 8);
+    session.piece(&[0x78], &[]);
+    session.piece(&[], &[(2, 0), (2, 0)]);
+    assert_eq!(session.pack(1, 5).output, [0, 4, 0, 4, 0x78]);
+}
+
+#[test]
+fn case_4() {
+    let mut session = Session::new(2, 2, 8);
+    session.piece(&[0x78], &[]);
+    session.piece(&[], &[(4, 0)]);
+    assert_eq!(session.pack(1, 5).output, [0, 0, 0, 4, 0x78]);
+}
+
+#[test]
+fn case_5() {
+    let mut session = Session::new(3, 3, 8);
+    session.piece(&[0x78], &[]);
+    session.piece(&[], &[(2, 0)]);
+    session.piece(&[], &[(2, 0), (2, 1)]);
+    assert_eq!(session.pack(2, 7).output, [0, 6, 0, 4, 0, 2, 0x78]);
+}
+
+#[test]
+fn case_6() {
+    let mut session = Session::new(2, 0, 8);
+    session.piece(&[0x64], &[]);
+    session.piece(&[0x65], &[]);
+    let packed = session.pack(1, 1);
+    assert_eq!(packed.answer.length, 1);
+    assert_eq!(packed.output, [0x65]);
+}
+
+#[test]
+fn case_7() {
+    let mut session = Session::new(1, 0, 8);
+    assert_eq!(session.piece(&[0x64], &[]), 0);
+    assert_eq!(session.piece(&[0x64], &[]), 0);
+    session.open();
+    session.put(&[0x65]);
+    assert_eq!(session.close(), told(8, [2, 0, 1, 1]));
+    assert_eq!(session.tally(), told(0, [2, 0, 1, 1]));
+}
+
+#[test]
+fn case_8() {
+    let mut session = Session::new(1, 1, 8);
+    assert_eq!(session.put(&[0x61]), told(1, [0; 4]));
+    assert_eq!(session.put(&[]), told(1, [0; 4]));
+    assert_eq!(session.link(2, 0), told(1, [0; 4]));
+    assert_eq!(session.close(), told(1, [0; 4]));
+    assert_eq!(session.drop_piece(), told(1, [0; 4]));
+    session.open();
+    assert_eq!(session.close(), told(5, [0, 0, 0, 1]));
+    assert_eq!(session.put(&[]), told(0, [0, 0, 0, 1]));
+    assert_eq!(session.close(), told(5, [0, 0, 0, 1]));
+}
+
+#[test]
+fn case_9() {
+    let mut session = Session::new(1, 0, 8);
+    session.open();
+    assert_eq!(session.put(b"abc"), told(0, [3, 0, 0, 1]));
+    assert_eq!(session.drop_piece(), told(0, [0; 4]));
+    assert_eq!(session.stores.bytes, [0; 8]);
+}
+
+#[test]
+fn case_10() {
+    let mut session = Session::new(1, 0, 8);
+    assert_eq!(session.tally(), Answer::default());
+    assert_eq!(session.pack(0, 8).answer, told(4, [0; 4]));
+}
+
+/// Leaves of the given lengths and a root with a width-2 link to each.
+fn two_leaves(x: usize, y: usize) -> Session {
+    let mut session = Session::new(3, 2, 140_000);
+    session.piece(&vec![0x78; x], &[]);
+    session.piece(&vec![0x79; y], &[]);
+    session.piece(&[], &[(2, 0), (2, 1)]);
+    session
+}
+
+#[test]
+fn case_11() {
+    let packed = two_leaves(65_531, 10).pack(2, 65_545);
+    assert_eq!(packed.answer.length, 65_545);
+    assert_eq!(packed.output[..5], [0, 4, 0xff, 0xff, 0x78]);
+    assert_eq!(packed.output[65_534..65_536], [0x78, 0x79]);
+}
+
+#[test]
+fn case_12() {
+    let packed = two_leaves(65_532, 10).pack(2, 65_546);
+    assert_eq!(packed.answer.length, 65_546);
+    assert_eq!(packed.output[..5], [0, 14, 0, 4, 0x79]);
+    assert_eq!(packed.output[13..15], [0x79, 0x78]);
+}
+
+#[test]
+fn case_13() {
+    let packed = two_leaves(65_532, 65_532).pack(2, 131_068);
+    let expected = Answer {
+        parent: 2,
+        field: 2,
+        needed: 65_536,
+        ..told(11, [131_068, 2, 3, 0])
+    };
+    assert_eq!(packed.answer, expected);
+}
+
+#[test]
+fn case_14() {
+    let mut session = Session::new(7, 6, 90_000);
+    let [f, g] = [&[0x66], &[0x67]].map(|bytes| session.piece(bytes, &[]) as u32);
+    let [d, e] = [f, g].map(|child| {
+        session.open();
+        session.link(2, child);
+        session.put(&vec![0x7a; 39_998]);
+        session.close().id as u32
+    });
+    let [b, c] = [d, e].map(|child| session.piece(&[], &[(2, child)]) as u32);
+    assert_ne!(b, c);
+    let a = session.piece(&[], &[(4, b), (4, c)]) as u32;
+    let expected = Answer {
+        parent: d.into(),
+        field: 0,
+        needed: 80_000,
+        ..told(11, [80_014, 6, 7, 0])
+    };
+    assert_eq!(session.pack(a, 80_014).answer, expected);
+}
+
+#[test]
+fn case_15() {
+    let mut session = Session::new(1, 0, 8);
+    for depth in 1..=64 {
+        assert_eq!(session.open(), told(0, [0, 0, 0, depth]));
+    }
+    assert_eq!(session.open(), told(2, [0, 0, 0, 64]));
+}
+
+#[test]
+fn cases_16_and_17() {
+    let table = |links: &[(u32, u32)]| {
+        let mut session = Session::new(2, 2, 8);
+        session.piece(&[0x78], &[]);
+        session.piece(&[], links);
+        let packed = session.pack(1, 8);
+        packed.output[..packed.answer.length as usize].to_vec()
+    };
+    assert_eq!(table(&[(3, 0)]), [0, 0, 3, 0x78]);
+    assert_eq!(table(&[(3, 0), (2, 0)]), [0, 0, 5, 0, 5, 0x78]);
+}
