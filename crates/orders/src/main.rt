@@ -213,6 +213,18 @@ fn graph_different_ready_times() {
     show(b"different ready times", &nodes, &links, 5);
 }
 
+fn graph_three_weighs_more_than_two() {
+    let nodes: [u64; 9] = [1, 10, 5, 0, 0, 0, 0, 0, 2];
+    let links: [u64; 6] = [0, 3, 0, 3, 2, 1];
+    show(b"width 3 weighs more than width 2", &nodes, &links, 3);
+}
+
+fn graph_three_weighs_less_than_four() {
+    let nodes: [u64; 9] = [10, 1, 7, 0, 0, 0, 0, 0, 2];
+    let links: [u64; 6] = [0, 4, 1, 4, 3, 0];
+    show(b"width 3 weighs less than width 4", &nodes, &links, 3);
+}
+
 fn graph_least_of_two_paths() {
     let nodes: [u64; 15] = [7, 9, 5, 5, 4, 0, 0, 0, 1, 3, 0, 0, 1, 2, 2];
     let links: [u64; 15] = [1, 4, 0, 1, 2, 1, 3, 2, 0, 0, 2, 2, 2, 2, 3];
@@ -232,5 +244,7 @@ fn main() {
     graph_lighter_link_second();
     graph_lighter_link_first();
     graph_different_ready_times();
+    graph_three_weighs_more_than_two();
+    graph_three_weighs_less_than_four();
     graph_least_of_two_paths();
 }

@@ -1,4 +1,4 @@
-//! The fifteen hand-counted cases as lists of calls.
+//! The seventeen hand-counted cases as lists of calls.
 
 use crate::call::Call;
 use crate::limits;
@@ -138,6 +138,14 @@ pub fn hand_counted_cases() -> Vec<Case> {
         two_leaves("13", 65_532, 65_532),
         case_14(),
         (0..65).fold(Case::new("15", 1, 0, 4), |case, _| case.open()),
+        Case::new("16", 2, 1, 8)
+            .piece(b"x", &[])
+            .piece(&[], &[(3, 0)])
+            .pack(1, 4),
+        Case::new("17", 2, 2, 8)
+            .piece(b"x", &[])
+            .piece(&[], &[(3, 0), (2, 0)])
+            .pack(1, 6),
     ]
 }
 

@@ -90,6 +90,7 @@ impl Graph {
     fn weight(&self, link: &Link) -> u64 {
         let width_weight = match link.width {
             2 => 65_536,
+            3 => 16_777_216,
             _ => 4_294_967_296,
         };
         self.nodes[link.child].size + width_weight

@@ -121,6 +121,16 @@ pub fn all() -> Vec<Named> {
                 (4, &[(0, 2, 2), (2, 2, 3)]),
             ],
         ),
+        // x by width 3, y by width 2.
+        named(
+            "width 3 weighs more than width 2",
+            &[(1, &[]), (10, &[]), (5, &[(0, 3, 0), (3, 2, 1)])],
+        ),
+        // y by width 4, x by width 3.
+        named(
+            "width 3 weighs less than width 4",
+            &[(10, &[]), (1, &[]), (7, &[(0, 4, 1), (4, 3, 0)])],
+        ),
         // x, w, a linking x by width 4, b linking x and w, root linking a, b.
         named(
             "least of two paths",

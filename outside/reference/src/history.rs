@@ -72,7 +72,7 @@ impl History {
         let Some(piece) = self.open.last_mut() else {
             return self.tell(1);
         };
-        if ![2, 4].contains(&width) {
+        if ![2, 3, 4].contains(&width) {
             return self.tell(3);
         }
         let Some(child) = child else {

@@ -110,9 +110,9 @@ fn place(graph: &Graph, order: Vec<usize>) -> Placing {
     Placing { order, places }
 }
 
-/// Width 2 holds up to 65,535; width 4 always fits.
+/// Width 2 holds up to 65,535; widths 3 and 4 always fit.
 fn fits(link: &Link, offset: u64) -> bool {
-    link.width == 4 || offset <= 65_535
+    link.width != 2 || offset <= 65_535
 }
 
 impl Placing {

@@ -47,7 +47,7 @@ fn closed_fields_right(view: &View) -> bool {
     (0..view.closed()).all(|id| fields_right(view, &view.closed_piece(id), id))
 }
 
-/// Fields rising, apart, inside the piece, of width 2 or 4 and of zero bytes,
+/// Fields rising, apart, inside the piece, of width 2, 3 or 4 and of zero bytes,
 /// with children below a bound.
 fn fields_right(view: &View, piece: &Piece, bound: usize) -> bool {
     let bytes = &view.store[piece.bytes.clone()];
@@ -56,7 +56,7 @@ fn fields_right(view: &View, piece: &Piece, bound: usize) -> bool {
         let field = view.field(record);
         let begin = u64::from(field.place);
         let end = begin + u64::from(field.width);
-        let well_placed = matches!(field.width, 2 | 4)
+        let well_placed = matches!(field.width, 2..=4)
             && free_from <= begin
             && end <= bytes.len() as u64
             && (field.child as usize) < bound;

@@ -26,6 +26,7 @@ fn offset_cases() -> Vec<Case> {
     vec![
         root("offset 65535 width 2", 65_533, 2),
         root("offset 65536 width 2", 65_534, 2),
+        root("offset 65536 width 3", 65_533, 3),
         root("offset 65536 width 4", 65_532, 4),
     ]
 }
@@ -220,8 +221,8 @@ fn refusal_cases() -> Vec<Case> {
         Case::new("width 258", 1, 1, 8)
             .piece(b"a", &[])
             .open()
-            .links(&[(258, 0), (260, 0), (65_538, 0), (0, 0), (1, 0), (3, 0)])
-            .links(&[(8, 0), (u32::MAX, 0), (258, u32::MAX), (2, 0)])
+            .links(&[(258, 0), (259, 0), (260, 0), (65_538, 0), (0, 0), (1, 0)])
+            .links(&[(5, 0), (8, 0), (u32::MAX, 0), (258, u32::MAX), (2, 0)])
             .tally(),
         Case::new("id 4294967295", 1, 1, 8)
             .piece(b"a", &[])

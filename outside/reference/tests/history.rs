@@ -53,7 +53,7 @@ fn ids_and_sums_of_case_1() {
 fn refused_calls_change_nothing() {
     let mut history = begin(1, 1, 4);
     assert_eq!(history.put(b"abcde"), told(1, [0; 4]));
-    assert_eq!(history.link(3, 9), told(1, [0; 4]));
+    assert_eq!(history.link(5, 9), told(1, [0; 4]));
     assert_eq!(history.close(), told(1, [0; 4]));
     assert_eq!(history.drop_piece(), told(1, [0; 4]));
     piece(&mut history, b"a", &[]);

@@ -114,13 +114,16 @@ fn offsets_at_the_edge_of_a_width_2_field() {
 }
 
 #[test]
-fn all_four_bytes_of_a_width_4_offset() {
-    let mut session = Session::new(2, 1, 1_048_576);
-    session.piece(b"x", &[]);
-    session.piece(&vec![1; 0x0a_0b_0c - 4], &[(4, 0)]);
-    let packed = session.pack(1, 0x0a_0b_0d);
-    let field = &packed.output[0x0a_0b_0c - 4..];
-    assert_eq!(field, [0, 0x0a, 0x0b, 0x0c, b'x']);
+fn all_bytes_of_wider_offsets() {
+    let field = |width: u32| {
+        let before = 0x0a_0b_0c - width as usize;
+        let mut session = Session::new(2, 1, 1_048_576);
+        session.piece(b"x", &[]);
+        session.piece(&vec![1; before], &[(width, 0)]);
+        session.pack(1, 0x0a_0b_0d).output[before..].to_vec()
+    };
+    assert_eq!(field(3), [0x0a, 0x0b, 0x0c, b'x']);
+    assert_eq!(field(4), [0, 0x0a, 0x0b, 0x0c, b'x']);
 }
 
 fn last_answer(name: &str) -> Answer {

@@ -11,7 +11,7 @@ fn widths_are_not_cut_short() {
     let mut session = Session::new(1, 1, 16);
     session.piece(b"a", &[]);
     session.open();
-    for width in [0, 1, 3, 5, 8, 256, 258, 260, 65_538, 65_540, u32::MAX] {
+    for width in [0, 1, 5, 6, 8, 256, 258, 259, 260, 65_538, 65_540, u32::MAX] {
         assert_eq!(session.link(width, 0), told(3, [1, 0, 1, 1]));
         assert_eq!(session.link(width, 7), told(3, [1, 0, 1, 1]));
     }
@@ -89,10 +89,10 @@ fn open_is_not_refused_at_the_piece_limit() {
 fn link_tells_1_3_4_7_6_in_this_order() {
     let mut session = Session::new(1, 1, 3);
     session.piece(b"a", &[]);
-    assert_eq!(session.link(3, 9).number, 1);
+    assert_eq!(session.link(5, 9).number, 1);
     session.open();
     assert_eq!(session.link(2, 0), told(0, [3, 1, 1, 1]));
-    assert_eq!(session.link(3, 9), told(3, [3, 1, 1, 1]));
+    assert_eq!(session.link(5, 9), told(3, [3, 1, 1, 1]));
     assert_eq!(session.link(2, 9), told(4, [3, 1, 1, 1]));
     assert_eq!(session.link(2, 0), told(7, [3, 1, 1, 1]));
 }

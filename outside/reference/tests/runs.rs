@@ -130,7 +130,7 @@ fn any_call(numbers: &mut Numbers, tally: Answer, most: usize) -> Call {
         Call::Put((0..length).map(|_| numbers.below(2) as u8).collect())
     };
     let link = |numbers: &mut Numbers| Call::Link {
-        width: numbers.one_of(&[2, 2, 2, 2, 4, 4, 3, 258]),
+        width: numbers.one_of(&[2, 2, 2, 3, 4, 4, 0, 1, 5, 258]),
         id: any_id(numbers, closed),
     };
     let pack = |numbers: &mut Numbers| Call::Pack {
@@ -204,7 +204,7 @@ fn runs_with_large_pieces() {
                 pair.run(&Call::Put(bytes.clone()));
             }
             for _ in 0..numbers.below(4) {
-                let width = numbers.one_of(&[2, 2, 2, 4]);
+                let width = numbers.one_of(&[2, 2, 3, 4]);
                 let child = numbers.below(id.max(1)) as u32;
                 pair.run(&Call::Link { width, id: child });
             }
@@ -261,7 +261,7 @@ fn all_pieces_and_links_of_the_limits() {
         pair.run(&Call::Put(id.to_be_bytes().to_vec()));
         for _ in 0..4 {
             let far = numbers.below(60).min(id as usize) as u32;
-            let width = numbers.one_of(&[2, 4, 4, 4]);
+            let width = numbers.one_of(&[2, 3, 4, 4]);
             let child = id.saturating_sub(1 + far);
             pair.run(&Call::Link { width, id: child });
         }

@@ -89,7 +89,7 @@ fn each_word_that_counts_is_looked_at() {
         (143, u32::MAX - 1, "field end past 32 bits"),
         (144, 0, "width 0"),
         (144, 1, "width 1"),
-        (144, 3, "width 3"),
+        (144, 5, "width 5"),
         (144, 258, "width 258"),
         (145, 2, "child of an open piece not closed"),
         (145, u32::MAX, "child far too high"),
@@ -266,7 +266,7 @@ fn slow_sound(store: &[u8], words: &[u32]) -> bool {
             for record in link..link + links {
                 let at = 135 + 2 * p + 3 * record;
                 let (place, width, child) = (word(at)?, word(at + 1)?, word(at + 2)?);
-                let right = place >= end && [2, 4].contains(&width) && child < bound;
+                let right = place >= end && [2, 3, 4].contains(&width) && child < bound;
                 end = place + width;
                 if !right || end > size || !zero(begin + place..begin + end) {
                     return Some(false);

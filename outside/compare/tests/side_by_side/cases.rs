@@ -1,4 +1,4 @@
-//! The fifteen hand-counted cases and the traps on both packers.
+//! The seventeen hand-counted cases and the traps on both packers.
 
 use compare::claims::Claims;
 use compare::{Numbers, Pair};

@@ -98,7 +98,7 @@ const BATCHES: [Batch; 4] = [
         families: &FAMILIES,
         least: 2,
         more: 40,
-        make: make(4, &[2, 2, 4], &[2, 3, 5, 9, 20]),
+        make: make(4, &[2, 2, 3, 4], &[2, 3, 5, 9, 20]),
     },
     // Few pieces, of sizes about what a field of width 2 holds.
     Batch {
@@ -108,7 +108,7 @@ const BATCHES: [Batch; 4] = [
         more: 4,
         make: make(
             3,
-            &[2, 2, 2, 2, 4],
+            &[2, 2, 2, 2, 3, 4],
             &[
                 2, 3, 4, 10, 30_000, 65_526, 65_528, 65_529, 65_530, 65_532, 65_533, 65_534,
             ],
@@ -120,7 +120,7 @@ const BATCHES: [Batch; 4] = [
         families: &[Family::Fan],
         least: 3,
         more: 4,
-        make: make(3, &[2], &[2, 4, 10, 10, 65_519, 65_525]),
+        make: make(3, &[2, 2, 2, 2, 3, 4], &[2, 4, 10, 10, 65_519, 65_525]),
     },
     // Many pieces whose table is longer than a field of width 2 reaches.
     Batch {
@@ -128,7 +128,7 @@ const BATCHES: [Batch; 4] = [
         families: &FAMILIES,
         least: 150,
         more: 150,
-        make: make(2, &[2, 4, 4, 4], &[4, 200, 300, 500, 900]),
+        make: make(2, &[2, 3, 3, 4, 4], &[4, 200, 300, 500, 900]),
     },
 ];
 
@@ -163,7 +163,7 @@ fn many_graphs() {
     assert!(seen.by_distance >= 30 && seen.one_too_many >= 5);
 }
 
-const MIXED: &[u32] = &[2, 4, 4, 4];
+const MIXED: &[u32] = &[2, 3, 3, 4, 4];
 
 /// As many pieces and links as the limits allow.
 #[test]
@@ -171,7 +171,7 @@ fn regular_graphs_of_all_pieces_and_links() {
     largest(
         "largest regular graphs",
         &[
-            (Family::Chain, &[2], &[2]),
+            (Family::Chain, &[2, 3, 4], &[2]),
             (Family::Lattice, MIXED, &[2, 9, 20]),
         ],
     );
@@ -182,7 +182,7 @@ fn wide_graphs_of_all_pieces_and_links() {
     let seen = largest(
         "largest wide graphs",
         &[
-            (Family::Fan, &[4], &[2, 9]),
+            (Family::Fan, &[3, 4], &[2, 9]),
             (Family::Shared, MIXED, &[2, 9, 20]),
         ],
     );
@@ -214,7 +214,7 @@ fn full(mut graph: Graph) -> Graph {
         16_384_usize.checked_sub(shapes::links(&graph)),
     );
     match more {
-        Some(more) => graph[root].links.extend((0..more).map(|k| (4, k % root))),
+        Some(more) => graph[root].links.extend((0..more).map(|k| (3 + k as u32 % 2, k % root))),
         None => {
             let less = shapes::links(&graph) - 16_384;
             let kept = graph[root].links.len() - less;

@@ -31,7 +31,7 @@ pub fn link(store: &[u8], records: &mut [u32], width: u32, id: u32) -> Answer {
     let tally = view.tally();
     let refusal = if view.depth() == 0 {
         Some(answer::NOTHING_OPEN)
-    } else if width != 2 && width != 4 {
+    } else if !matches!(width, 2..=4) {
         Some(answer::BAD_WIDTH)
     } else if u64::from(id) >= tally.objects {
         Some(answer::NOT_CLOSED)
