@@ -214,7 +214,9 @@ fn full(mut graph: Graph) -> Graph {
         16_384_usize.checked_sub(shapes::links(&graph)),
     );
     match more {
-        Some(more) => graph[root].links.extend((0..more).map(|k| (3 + k as u32 % 2, k % root))),
+        Some(more) => graph[root]
+            .links
+            .extend((0..more).map(|k| (3 + k as u32 % 2, k % root))),
         None => {
             let less = shapes::links(&graph) - 16_384;
             let kept = graph[root].links.len() - less;
