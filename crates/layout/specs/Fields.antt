@@ -7,7 +7,7 @@ use lib.Dec.{leb, ltb}
 use Rattle.lists.specs.Lists.{part, holds, zeros}
 use Rattle.model.specs.Object.{Link, Object, widthOk}
 
--- a field at or past `from`, of width 2 or 4, inside the bytes, to a child below `kids`, its bytes zero
+-- a field at or past `from`, of a width that it may have, inside the bytes, to a child below `kids`, its bytes zero
 unfoldable pub fieldTests : ℕ → ℕ → List ℕ → Link → List Bool
 fieldTests kids from bs l =
     leb from (l .at) ∷ widthOk (l .width) ∷ leb (l .at + l .width) (length bs) ∷ ltb (l .child) kids ∷ zeros (part (l .at) (l .at + l .width) bs) ∷ []

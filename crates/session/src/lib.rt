@@ -39,7 +39,7 @@ pub fn put(store: &mut [u8], records: &mut [u32], bytes: &[u8]) -> Answer
     Answer::Refused(Refusal::Unsound, Tally::none())
 }
 
-// 12 where the session is not sound, 1 nothing open, 3 a width that is not 2 or 4, 4 no such closed object, 7 no room for a link, 6 none for its field.
+// 12 where the session is not sound, 1 nothing open, 3 a width that no field has, 4 no such closed object, 7 no room for a link, 6 none for its field.
 pub fn link(store: &[u8], records: &mut [u32], width: u32, id: ObjectId) -> Answer
     ensures { λ r. ⌜ left (toldBy r) (now (store .entry)) (now (records .exit)) ≡ stepOn (link width (id .0)) (stores (now (store .entry)) (now (records .entry))) ⌝ }
 {
