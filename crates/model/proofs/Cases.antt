@@ -1,4 +1,4 @@
--- The hand-counted cases, the refusals that apply at once, and the graphs that tell the orders apart: each by one claim over its list, which the checker computes.
+-- The hand-counted cases, the ends of the ranges, the refusals that apply at once, and the graphs that tell the orders apart: each by one claim over its list, which the checker computes.
 use mathlib.Core.Path.{_≡_, refl}
 use mathlib.Core.List.{[], _∷_, map}
 use mathlib.Core.Bool.{true}
@@ -11,12 +11,16 @@ use Rattle.model.specs.Distance.{relax, relaxAll, distancesBy, beyond, d
 use Rattle.model.specs.Table.{before, offset, unfitLinks, unfitFrom, tryOrder, tryLast, firstFit, arranged, tableLength, filled, objectBytes, tableFrom, tableOf}
 use Rattle.model.specs.Judge.{verdict, numberOf}
 use Rattle.model.specs.Session.{step, pack, afterCall}
-use Rattle.model.specs.Cases.{numbersOf, idsOf, countsOf, tablesOf, right, allRight, cases, several}
+use Rattle.model.specs.Cases.{numbersOf, idsOf, countsOf, tablesOf, right, allRight, cases, ends, several}
 use Rattle.model.specs.OrderCases.{right as orderRight, allRight as ordersRight, cases as graphs}
 
 pub cases-right : allRight cases ≡ true
 unfolding allRight right numbersOf idsOf countsOf tablesOf afterCall step pack verdict arranged firstFit tryOrder tryLast unfitFrom unfitLinks offset before tableLength tableOf tableFrom objectBytes filled kahnOrder distanceOrder distance distancesBy beyond relaxAll relax orderBy orderFrom reached reachDown waits kidsOf one count without zerosOf lastOnce least sameList total firstThat over holds bigEndian
 cases-right = refl
+
+pub ends-right : map numberOf ends ≡ 0 ∷ 0 ∷ 13 ∷ 13 ∷ 13 ∷ 13 ∷ 13 ∷ []
+unfolding verdict holds
+ends-right = refl
 
 -- "link 12, 1, 3, 4, 7, 6", "pack 12, 13, 9, 4, 10, 11"
 pub several-right : map (map numberOf) several ≡ (12 ∷ 1 ∷ 3 ∷ 4 ∷ 7 ∷ 6 ∷ []) ∷ (12 ∷ 13 ∷ 9 ∷ 4 ∷ 10 ∷ 11 ∷ []) ∷ []

@@ -1,4 +1,4 @@
--- docs/RULES.md, section 9: the twelve cases marked P and two more, on the abstract session, by one claim over a list of them; and 6.1, for link and pack.
+-- docs/RULES.md, section 9: the twelve cases marked P and two more, on the abstract session, by one claim over a list of them; the ends of 3.1 and 3.2; and 6.1, for link and pack.
 use Prim.Native.Nat.{ℕ}
 use mathlib.Core.List.{List, [], _∷_, _++_}
 use mathlib.Core.Bool.{Bool, true, false, _&&_}
@@ -7,7 +7,7 @@ use Rattle.lists.specs.Lists.{sameList}
 use Rattle.answer.specs.Number.{noOverflow}
 use Rattle.answer.specs.declared.tally.Tally.{Tally}
 use Rattle.model.specs.Table.{overflow}
-use Rattle.model.specs.Judge.{Limits, Verdict, judgeLink, judgePack}
+use Rattle.model.specs.Judge.{Limits, Verdict, judgeStart, judgeLink, judgePack}
 use Rattle.model.specs.Session.{Needs, Session, started, tallyOf, SessionCall, startCall, openCall, putCall, linkCall, closeCall, dropCall, tallyCall, step, pack, Call, sessionCall, packCall, afterCall}
 
 -- from a fresh session: the number that each call tells, the id of each close, the four counts at the end, and all tables
@@ -224,6 +224,19 @@ cases =
       counts = 1 ∷ 0 ∷ 1 ∷ 1 ∷ [];
       table = [];
     }
+    ∷ []
+
+-- ---- the ends of the ranges: the least and the greatest limits, and one past each
+
+abbrev pub ends : List Verdict
+ends =
+    judgeStart (limitsOf 1 0 1) 0 0
+    ∷ judgeStart (limitsOf 16384 65536 16777216) 0 0
+    ∷ judgeStart (limitsOf 0 0 1) 0 0
+    ∷ judgeStart (limitsOf 1 0 0) 0 0
+    ∷ judgeStart (limitsOf 16385 65536 16777216) 0 0
+    ∷ judgeStart (limitsOf 16384 65537 16777216) 0 0
+    ∷ judgeStart (limitsOf 16384 65536 16777217) 0 0
     ∷ []
 
 -- ---- several refusals at once, of a link and of a pack: in each line those of all the lines below it apply too

@@ -15,13 +15,13 @@ use Rattle.model.specs.Table.{Outcome, placed, overflow}
 -- ---- ranges
 
 abbrev pub mostObjects : ℕ
-mostObjects = 4096
+mostObjects = 16384
 
 abbrev pub mostLinks : ℕ
-mostLinks = 16384
+mostLinks = 65536
 
 abbrev pub mostBytes : ℕ
-mostBytes = 1048576
+mostBytes = 16777216
 
 abbrev pub mostOpen : ℕ
 mostOpen = 64
@@ -82,7 +82,7 @@ notClosed t id = when (leb (t .objects) id) Refusal.NotClosed
 abbrev pub storeFull : Limits → Tally → ℕ → Test
 storeFull m t n = when (ltb (m .bytes) (t .bytes + n)) Refusal.StoreFull
 
--- a width that is not 2 or 4
+-- a width that no field has
 abbrev pub badWidth : ℕ → Test
 badWidth width = when (not (widthOk width)) Refusal.BadWidth
 

@@ -44,7 +44,7 @@ linedOf a r w = record { line = lineIn a r w; incoming = incomingIn a w }
 
 -- ---- what the steps ask and do
 
--- far beyond any distance, which is less than mostNodes times mostWeight
+-- far beyond any distance: a path has fewer links than there are nodes, each of less than mostWeight, 2^33. With 16,384 objects that is below 2^47
 abbrev pub farAway : ℕ
 farAway = 9223372036854775808
 
