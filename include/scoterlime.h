@@ -63,7 +63,7 @@ uint64_t scoterlime_records_need(uint32_t piece_limit, uint32_t link_limit);
 uint64_t scoterlime_work_need(uint32_t piece_limit, uint32_t link_limit);
 
 /* Begins a session, whatever the stores held: clears the byte store and the needed words at records.
- * Refused: 13 (piece_limit is not 1 to 4,096, link_limit is over 16,384, n is not 1 to 1,048,576, or r is short of the need). */
+ * Refused: 13 (piece_limit is not 1 to 16,384, link_limit is over 65,536, n is not 1 to 16,777,216, or r is short of the need). */
 scoterlime_answer scoterlime_start(uint8_t *store, size_t n, uint32_t *records, size_t r, uint32_t piece_limit, uint32_t link_limit);
 
 /* Opens an object of no bytes, inside the innermost open one if there is one.

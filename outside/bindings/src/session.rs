@@ -44,7 +44,7 @@ impl<'a> Session<'a> {
 
     /// The closed object's id.
     pub fn close(&mut self) -> Result<u32, Refused> {
-        // An id is below 4,096.
+        // An id is below 16,384.
         told(calls::close(self.store, self.records)).map(|answer| answer.id as u32)
     }
 

@@ -6,7 +6,7 @@ use crate::view::View;
 pub struct Link {
     /// Place of the field in its piece.
     pub place: u64,
-    /// 2 or 4.
+    /// 2, 3 or 4.
     pub width: u64,
     pub child: usize,
 }
