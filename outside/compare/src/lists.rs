@@ -113,12 +113,12 @@ impl Style {
     fn restart(&self, numbers: &mut Numbers) -> Call {
         Call::Start {
             pieces: match numbers.below(8) {
-                0 => numbers.one_of(&[0, 4_096, 4_097, u32::MAX]),
+                0 => numbers.one_of(&[0, 16_384, 16_385, u32::MAX]),
                 1 => self.pieces + 1,
                 _ => 1 + numbers.below(self.pieces as usize) as u32,
             },
             links: match numbers.below(8) {
-                0 => numbers.one_of(&[16_384, 16_385, u32::MAX]),
+                0 => numbers.one_of(&[65_536, 65_537, u32::MAX]),
                 _ => numbers.below(self.links as usize + 1) as u32,
             },
         }

@@ -21,9 +21,9 @@ impl History {
     /// The history that a first start begins, if that start is accepted.
     pub fn begin(pieces: u32, links: u32, store: usize, records: usize) -> Option<History> {
         let words = 135 + 2 * u64::from(pieces) + 3 * u64::from(links);
-        let accepted = (1..=4_096).contains(&pieces)
-            && links <= 16_384
-            && (1..=1_048_576).contains(&store)
+        let accepted = (1..=16_384).contains(&pieces)
+            && links <= 65_536
+            && (1..=16_777_216).contains(&store)
             && records as u64 >= words;
         accepted.then(|| History {
             piece_limit: pieces as usize,

@@ -1,8 +1,8 @@
 //! The ranges of the limits and how many words the lent memories need.
 
-pub const MOST_PIECES: u64 = 4_096;
-pub const MOST_LINKS: u64 = 16_384;
-pub const LONGEST_STORE: u64 = 1_048_576;
+pub const MOST_PIECES: u64 = 16_384;
+pub const MOST_LINKS: u64 = 65_536;
+pub const LONGEST_STORE: u64 = 16_777_216;
 pub const DEEPEST: u64 = 64;
 
 pub fn pieces_in_range(pieces: u64) -> bool {

@@ -193,7 +193,7 @@ fn start_cases() -> Vec<Case> {
                 links: 1,
             })
             .call(Call::Start {
-                pieces: 4_097,
+                pieces: 16_385,
                 links: 0,
             })
             .call(Call::Start {
@@ -202,7 +202,7 @@ fn start_cases() -> Vec<Case> {
             })
             .call(Call::Start {
                 pieces: 1,
-                links: 16_385,
+                links: 65_537,
             })
             .call(Call::Start {
                 pieces: 1,
@@ -235,21 +235,21 @@ fn refusal_cases() -> Vec<Case> {
             .pack(0, 8),
         Case::new("put longer than any store", 1, 0, 8)
             .open()
-            .fill(b'p', 1_048_577)
+            .fill(b'p', 16_777_217)
             .fill(b'p', 65_536)
             .fill(b'p', 9)
             .fill(b'p', 8)
             .put(b"")
             .put(b"p")
             .tally(),
-        Case::new("longest store", 1, 0, 1_048_576)
+        Case::new("longest store", 1, 0, 16_777_216)
             .open()
-            .fill(b'p', 1_048_577)
-            .fill(b'p', 1_048_576)
+            .fill(b'p', 16_777_217)
+            .fill(b'p', 16_777_216)
             .put(b"p")
             .close()
-            .pack(0, 1_048_575)
-            .pack(0, 1_048_576),
+            .pack(0, 16_777_215)
+            .pack(0, 16_777_216),
         (0..65)
             .fold(Case::new("65 opens", 1, 0, 4), |case, _| case.open())
             .drop_piece()

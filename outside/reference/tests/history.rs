@@ -27,10 +27,11 @@ fn a_first_start_is_judged() {
     assert!(History::begin(1, 0, 1, 137).is_some());
     assert!(History::begin(1, 0, 1, 136).is_none());
     assert!(History::begin(0, 0, 1, 137).is_none());
-    assert!(History::begin(4_097, 0, 1, 1 << 20).is_none());
-    assert!(History::begin(1, 16_385, 1, 1 << 20).is_none());
+    assert!(History::begin(16_384, 65_536, 16_777_216, 1 << 20).is_some());
+    assert!(History::begin(16_385, 0, 1, 1 << 20).is_none());
+    assert!(History::begin(1, 65_537, 1, 1 << 20).is_none());
     assert!(History::begin(1, 0, 0, 137).is_none());
-    assert!(History::begin(1, 0, 1_048_577, 137).is_none());
+    assert!(History::begin(1, 0, 16_777_217, 137).is_none());
     assert!(History::begin(u32::MAX, u32::MAX, 1, usize::MAX).is_none());
 }
 

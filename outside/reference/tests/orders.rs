@@ -137,7 +137,7 @@ fn distances_pass_32_bits() {
     assert_eq!(graph.distances(2), expected);
 }
 
-/// Graphs with shared children, equal sizes and both widths.
+/// Graphs with shared children, equal sizes and all widths.
 fn any_graph(numbers: &mut Numbers) -> Graph {
     let count = 1 + numbers.below(12);
     let mut nodes = Vec::new();
@@ -147,7 +147,7 @@ fn any_graph(numbers: &mut Numbers) -> Graph {
         let mut own = Vec::new();
         for _ in 0..links {
             place += numbers.one_of(&[0, 0, 1]);
-            let width = numbers.one_of(&[2, 2, 2, 4]);
+            let width = numbers.one_of(&[2, 2, 2, 3, 4]);
             let child = numbers.below(id);
             own.push(Link {
                 place,
@@ -175,7 +175,7 @@ fn slow_distances(graph: &Graph, root: usize) -> Vec<Option<u64>> {
         for (id, node) in graph.nodes.iter().enumerate() {
             for link in &node.links {
                 let Some(own) = known[id] else { continue };
-                let base: u64 = if link.width == 2 { 1 << 16 } else { 1 << 32 };
+                let base = 256_u64.pow(link.width as u32);
                 let sum = own + base + graph.nodes[link.child].size;
                 if known[link.child].is_none_or(|other| sum < other) {
                     known[link.child] = Some(sum);

@@ -82,9 +82,9 @@ fn other_refusals_leave_the_work_memory() {
 
 #[test]
 fn the_need_goes_by_the_limits_and_not_by_the_counts() {
-    let mut session = Session::new(4_096, 16_384, 8);
+    let mut session = Session::new(16_384, 65_536, 8);
     session.piece(b"x", &[]);
-    assert_eq!(session.work, 9 * 4_096 + 3 * 16_384);
+    assert_eq!(session.work, 9 * 16_384 + 3 * 65_536);
     assert_eq!(session.pack(0, 1).answer.number, 0);
     session.work -= 1;
     assert_eq!(session.pack(0, 1).answer, Answer::bare(13));
@@ -92,8 +92,8 @@ fn the_need_goes_by_the_limits_and_not_by_the_counts() {
 
 #[test]
 fn needs_stay_within_their_bound() {
-    for pieces in [1, 2, 4_095, 4_096] {
-        for links in [0, 1, 16_383, 16_384] {
+    for pieces in [1, 2, 16_383, 16_384] {
+        for links in [0, 1, 65_535, 65_536] {
             let most = 4_096 + 64 * (pieces + links);
             assert!(limits::record_need(pieces, links) <= most);
             assert!(limits::work_need(pieces, links) <= most);
@@ -115,20 +115,23 @@ fn offsets_at_the_edge_of_a_width_2_field() {
 
 #[test]
 fn all_bytes_of_wider_offsets() {
-    let field = |width: u32| {
-        let before = 0x0a_0b_0c - width as usize;
-        let mut session = Session::new(2, 1, 1_048_576);
+    let field = |width: u32, offset: usize| {
+        let before = offset - width as usize;
+        let mut session = Session::new(2, 1, 16_777_216);
         session.piece(b"x", &[]);
         session.piece(&vec![1; before], &[(width, 0)]);
-        session.pack(1, 0x0a_0b_0d).output[before..].to_vec()
+        session.pack(1, offset + 1).output[before..].to_vec()
     };
-    assert_eq!(field(3), [0x0a, 0x0b, 0x0c, b'x']);
-    assert_eq!(field(4), [0, 0x0a, 0x0b, 0x0c, b'x']);
+    assert_eq!(field(3, 0x0a_0b_0c), [0x0a, 0x0b, 0x0c, b'x']);
+    assert_eq!(field(4, 0x0a_0b_0c), [0, 0x0a, 0x0b, 0x0c, b'x']);
+    // The greatest that there is: the longest store, and a child of one byte.
+    assert_eq!(field(3, 16_777_215), [0xff, 0xff, 0xff, b'x']);
+    assert_eq!(field(4, 16_777_215), [0, 0xff, 0xff, 0xff, b'x']);
 }
 
 fn last_answer(name: &str) -> Answer {
-    let all = [hand_counted_cases(), trap_cases()].concat();
-    let case = all.into_iter().find(|case| case.name == name).unwrap();
+    let mut all = hand_counted_cases().into_iter().chain(trap_cases());
+    let case = all.find(|case| case.name == name).unwrap();
     let mut stores = reference::call::Stores::new(case.store, case.records);
     let answers = case.calls.iter().map(|call| stores.run(call).answer);
     answers.last().unwrap()

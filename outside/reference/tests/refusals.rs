@@ -33,7 +33,7 @@ fn ids_are_not_cut_short() {
 fn a_put_longer_than_any_store() {
     let mut session = Session::new(1, 0, 8);
     session.open();
-    for length in [9, 256, 65_536, 1_048_576, 1_048_577] {
+    for length in [9, 256, 65_536, 1_048_576, 16_777_216, 16_777_217] {
         assert_eq!(session.put(&vec![1; length]), told(6, [0, 0, 0, 1]));
     }
     assert_eq!(session.put(&[1; 8]), told(0, [8, 0, 0, 1]));
@@ -54,14 +54,17 @@ fn a_put_longer_than_32_bits_can_tell() {
 
 #[test]
 fn the_longest_store_can_be_filled() {
-    let mut session = Session::new(1, 0, 1_048_576);
+    let mut session = Session::new(1, 0, 16_777_216);
     session.open();
-    let held = 1_048_576;
-    assert_eq!(session.put(&vec![1; 1_048_577]), told(6, [0, 0, 0, 1]));
-    assert_eq!(session.put(&vec![1; 1_048_576]), told(0, [held, 0, 0, 1]));
+    let held = 16_777_216;
+    assert_eq!(session.put(&vec![1; 16_777_217]), told(6, [0, 0, 0, 1]));
+    assert_eq!(session.put(&vec![1; 16_777_216]), told(0, [held, 0, 0, 1]));
     assert_eq!(session.close().id, 0);
-    assert_eq!(session.pack(0, 1_048_575).answer, told(10, [held, 0, 1, 0]));
-    assert_eq!(session.pack(0, 1_048_576).answer.length, held);
+    assert_eq!(
+        session.pack(0, 16_777_215).answer,
+        told(10, [held, 0, 1, 0])
+    );
+    assert_eq!(session.pack(0, 16_777_216).answer.length, held);
 }
 
 #[test]

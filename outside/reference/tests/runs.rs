@@ -252,9 +252,9 @@ fn a_long_chain() {
 #[test]
 #[ignore = "takes a while"]
 fn all_pieces_and_links_of_the_limits() {
-    let (pieces, links) = (4_096, 16_384);
-    let records = limits::record_need(4_096, 16_384) as usize;
-    let mut pair = Pair::begin(90_000, records, &Call::Start { pieces, links });
+    let (pieces, links) = (16_384, 65_536);
+    let records = limits::record_need(16_384, 65_536) as usize;
+    let mut pair = Pair::begin(300_000, records, &Call::Start { pieces, links });
     let mut numbers = Numbers::new(20_000);
     for id in 0..pieces {
         pair.run(&Call::Open);
@@ -269,9 +269,9 @@ fn all_pieces_and_links_of_the_limits() {
     }
     pair.run(&Call::Pack {
         id: pieces - 1,
-        output: 90_000,
-        work: 9 * 4_096 + 3 * 16_384,
+        output: 300_000,
+        work: 9 * 16_384 + 3 * 65_536,
     });
-    assert_eq!(pair.history.tally().objects, 4_096);
+    assert_eq!(pair.history.tally().objects, 16_384);
     assert_eq!(pair.linked, 1);
 }

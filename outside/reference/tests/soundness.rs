@@ -52,7 +52,7 @@ fn each_word_that_counts_is_looked_at() {
     let unsound = [
         (0, 0, "piece limit 0"),
         (0, 5, "piece limit moved"),
-        (0, 4_097, "piece limit above its range"),
+        (0, 16_385, "piece limit above its range"),
         (0, u32::MAX, "piece limit far above its range"),
         (1, 5, "more closed than the limit"),
         (1, 3, "more closed than recorded"),
@@ -79,7 +79,7 @@ fn each_word_that_counts_is_looked_at() {
         (135, 23, "second closed size 0"),
         (135, u32::MAX, "closed begin far too high"),
         (138, 5, "link limit above the words"),
-        (138, 16_385, "link limit above its range"),
+        (138, 65_537, "link limit above its range"),
         (138, 3, "link limit below the closed links"),
         (139, 5, "closed link begins rising"),
         (140, 2, "a closed link that is not there"),
@@ -152,12 +152,29 @@ fn lengths_are_looked_at() {
 }
 
 #[test]
-fn a_store_outside_its_range_is_not_as_at_any_start() {
-    for length in [0, 1_048_577] {
-        let mut stores = Session::new(4, 4, 1).stores;
-        stores.bytes = vec![0; length];
-        stores.records[133] = length as u32;
-        assert_unsound(&stores, "store outside its range");
+fn every_range_has_both_its_ends() {
+    for (pieces, links, store, in_range) in [
+        (1, 0, 1, true),
+        (0, 0, 1, false),
+        (1, 0, 0, false),
+        (16_384, 65_536, 16_777_216, true),
+        (16_385, 65_536, 16_777_216, false),
+        (16_384, 65_537, 16_777_216, false),
+        (16_384, 65_536, 16_777_217, false),
+    ] {
+        // What a start with these would leave, accepted or not.
+        let mut stores = Stores {
+            bytes: vec![0; store],
+            records: vec![0; 135 + 2 * pieces + 3 * links],
+        };
+        stores.records[0] = pieces as u32;
+        stores.records[133] = store as u32;
+        stores.records[134 + pieces] = links as u32;
+        if in_range {
+            assert_eq!(stores.run(&Call::Tally).answer, Answer::default());
+        } else {
+            assert_unsound(&stores, "outside a range");
+        }
     }
 }
 
@@ -222,9 +239,9 @@ fn slow_sound(store: &[u8], words: &[u32]) -> bool {
         let (p, c, d) = (word(0)?, word(1)?, word(2)?);
         let l = word(134 + p)?;
         let n = store.len() as i64;
-        let ranges = (1..=4_096).contains(&p)
-            && (0..=16_384).contains(&l)
-            && (1..=1_048_576).contains(&n)
+        let ranges = (1..=16_384).contains(&p)
+            && (0..=65_536).contains(&l)
+            && (1..=16_777_216).contains(&n)
             && words.len() as i64 >= 135 + 2 * p + 3 * l
             && word(133)? == n
             && c <= p

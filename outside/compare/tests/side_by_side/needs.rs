@@ -6,7 +6,17 @@ use reference::limits;
 #[test]
 fn needs_are_as_documented() {
     let mut numbers = seed::numbers("needs");
-    let edges = [0, 1, 4_095, 4_096, 4_097, 16_384, 16_385, u32::MAX];
+    let edges = [
+        0,
+        1,
+        16_383,
+        16_384,
+        16_385,
+        65_535,
+        65_536,
+        65_537,
+        u32::MAX,
+    ];
     let mut pairs: Vec<(u32, u32)> = Vec::new();
     for p in edges {
         pairs.extend(edges.map(|l| (p, l)));
