@@ -6,7 +6,9 @@ use reference::call::Call;
 use reference::history::History;
 use reference::limits;
 use reference::reader;
+use reference::reading::Reading;
 use reference::Answer;
+use std::rc::Rc;
 
 /// A history with the limits that it was started with.
 pub struct Claims {
@@ -23,6 +25,14 @@ impl Claims {
             history: history.expect("the start is accepted"),
             lengths: (store, records),
             need: limits::work_need(pieces.into(), links.into()) as usize,
+        }
+    }
+
+    /// With these pieces closed already, all of them different.
+    pub fn with_closed(self, pieces: Vec<Rc<Reading>>) -> Claims {
+        Claims {
+            history: self.history.with_closed(pieces),
+            ..self
         }
     }
 

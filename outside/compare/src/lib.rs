@@ -1,17 +1,22 @@
 //! The proved packer and the reference side by side.
 //!
 //! * [`Pair`] runs each call on both and compares all that it tells and leaves.
-//! * [`claims`] checks what the history says of a call.
-//! * [`shapes`] and [`tamper`] make graphs and damaged stores.
+//! * [`claims`] checks what the history says of a call, [`Checked`] both.
+//! * [`shapes`] and [`largest`] make graphs, [`made`] stores that hold one,
+//!   [`tamper`] damaged stores.
 
+pub mod checked;
 pub mod claims;
 pub mod fenced;
+pub mod largest;
 pub mod lists;
+pub mod made;
 pub mod pair;
 pub mod proved;
 pub mod seed;
 pub mod shapes;
 pub mod tamper;
 
+pub use checked::Checked;
 pub use pair::Pair;
 pub use reference::random::Numbers;

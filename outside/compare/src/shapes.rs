@@ -11,6 +11,38 @@ pub struct Piece {
     pub links_first: bool,
 }
 
+impl Piece {
+    /// Place, width and child of each field, by rising place.
+    pub fn fields(&self) -> impl Iterator<Item = (usize, u32, usize)> + '_ {
+        let first = if self.links_first {
+            0
+        } else {
+            self.bytes.len()
+        };
+        self.links.iter().scan(first, |next, &(width, child)| {
+            let place = *next;
+            *next += width as usize;
+            Some((place, width, child))
+        })
+    }
+
+    /// Bytes that it holds, fields included.
+    pub fn size(&self) -> usize {
+        let fields: usize = self.links.iter().map(|&(width, _)| width as usize).sum();
+        self.bytes.len() + fields
+    }
+
+    /// All its bytes, its fields being zero.
+    pub fn all_bytes(&self) -> Vec<u8> {
+        let fields = vec![0; self.size() - self.bytes.len()];
+        if self.links_first {
+            [fields, self.bytes.clone()].concat()
+        } else {
+            [self.bytes.clone(), fields].concat()
+        }
+    }
+}
+
 pub type Graph = Vec<Piece>;
 
 #[derive(Clone, Copy, Debug, PartialEq, Eq)]
@@ -19,14 +51,16 @@ pub enum Family {
     Fan,
     Shared,
     Lattice,
+    Near,
     Any,
 }
 
-pub const FAMILIES: [Family; 5] = [
+pub const FAMILIES: [Family; 6] = [
     Family::Chain,
     Family::Fan,
     Family::Shared,
     Family::Lattice,
+    Family::Near,
     Family::Any,
 ];
 
@@ -83,6 +117,7 @@ impl Make {
             Family::Shared if id < count / 3 => Vec::new(),
             Family::Shared => (0..fanout).map(|_| numbers.below(count / 3)).collect(),
             Family::Lattice => lattice(id, last, count, fanout, numbers),
+            Family::Near => (0..fanout).map(|_| near(id, numbers)).collect(),
             Family::Any => (0..numbers.below(fanout + 1))
                 .map(|_| numbers.below(id))
                 .collect(),
@@ -111,6 +146,11 @@ fn lattice(
         .collect()
 }
 
+/// One of the last pieces before this one.
+fn near(id: usize, numbers: &mut Numbers) -> usize {
+    id - 1 - numbers.below(id.min(60))
+}
+
 fn shuffled(ids: std::ops::Range<usize>, numbers: &mut Numbers) -> Vec<usize> {
     let mut ids: Vec<usize> = ids.collect();
     for at in (1..ids.len()).rev() {
@@ -125,12 +165,20 @@ pub fn links(graph: &Graph) -> usize {
 
 /// Bytes that all pieces hold, fields included.
 pub fn bytes(graph: &Graph) -> usize {
-    let fields =
-        |piece: &Piece| -> usize { piece.links.iter().map(|&(width, _)| width as usize).sum() };
-    graph
-        .iter()
-        .map(|piece| piece.bytes.len() + fields(piece))
-        .sum()
+    graph.iter().map(Piece::size).sum()
+}
+
+/// More links, each from a piece that has some to one of its children, until
+/// there are this many.
+pub fn thicken(graph: &mut Graph, wanted: usize, widths: &[u32], numbers: &mut Numbers) {
+    let parents: Vec<usize> = (0..graph.len())
+        .filter(|&id| !graph[id].links.is_empty())
+        .collect();
+    for more in 0..wanted - links(graph) {
+        let own = &mut graph[parents[more % parents.len()]].links;
+        let child = own[numbers.below(own.len())].1;
+        own.push((numbers.one_of(widths), child));
+    }
 }
 
 /// The calls that open, fill and close a piece, by the ids of those before it.

@@ -34,6 +34,13 @@ impl History {
         })
     }
 
+    /// The same with these pieces closed, all of them different: for sessions
+    /// too large to be made call by call.
+    pub fn with_closed(mut self, pieces: Vec<Rc<Reading>>) -> History {
+        self.closed.extend(pieces);
+        self
+    }
+
     /// A later start on the same stores.
     pub fn start(&mut self, pieces: u32, links: u32, store: usize, records: usize) -> Answer {
         match History::begin(pieces, links, store, records) {

@@ -250,7 +250,7 @@ fn a_long_chain() {
 }
 
 #[test]
-#[ignore = "takes a while"]
+#[ignore = "takes minutes"]
 fn all_pieces_and_links_of_the_limits() {
     let (pieces, links) = (16_384, 65_536);
     let records = limits::record_need(16_384, 65_536) as usize;

@@ -1,58 +1,53 @@
 //! Graphs of many shapes, built by calls on both packers, packed, and read
 //! back by the reader.
 
-use compare::claims::Claims;
+use compare::made::Room;
 use compare::pair::Counts;
 use compare::shapes::{self, Family, Graph, Make, FAMILIES};
-use compare::{seed, Numbers, Pair};
-use reference::call::Call;
+use compare::{seed, Checked, Numbers, Pair};
 use reference::graph::Graph as Drawn;
-use reference::limits;
 use reference::orders;
 use reference::sound::sound;
 
 #[derive(Default)]
-struct Seen {
-    graphs: usize,
-    calls: usize,
-    told: Counts,
-    most: (usize, usize),
+pub struct Seen {
+    pub graphs: usize,
+    pub calls: usize,
+    pub told: Counts,
+    pub most: (usize, usize),
     /// Tables that only the distance order made fit.
-    by_distance: usize,
+    pub by_distance: usize,
     /// Refusals of an offset that is one too many for width 2.
-    one_too_many: usize,
+    pub one_too_many: usize,
+    /// Bytes of the longest table.
+    pub longest: u64,
 }
 
 /// A session that has room for the graph and little more.
-fn begin(graph: &Graph, numbers: &mut Numbers) -> (Pair, Claims) {
-    let (pieces, links) = (graph.len() as u32, shapes::links(graph) as u32);
-    let records = limits::record_need(pieces.into(), links.into()) as usize;
-    let store = shapes::bytes(graph) + numbers.below(3);
-    let mut pair = Pair::new(store, records, numbers);
-    assert_eq!(
-        pair.run(&Call::Start { pieces, links }, numbers)
-            .answer
-            .number,
-        0
-    );
-    (pair, Claims::begin(pieces, links, store, records))
+fn begin(graph: &Graph, numbers: &mut Numbers) -> Checked {
+    let room = Room {
+        pieces: graph.len() as u32,
+        links: shapes::links(graph) as u32,
+        store: shapes::bytes(graph) + numbers.below(3),
+    };
+    Checked::started(room, numbers)
 }
 
-fn build(graph: &Graph, pair: &mut Pair, claims: &mut Claims, numbers: &mut Numbers) -> Vec<u32> {
+/// Builds the graph, and gives the id of each of its pieces.
+pub fn build(graph: &Graph, session: &mut Checked, numbers: &mut Numbers) -> Vec<u32> {
     let mut ids = Vec::new();
     for piece in graph {
         let mut closed = 0;
         for call in shapes::calls(piece, &ids) {
-            let outcome = pair.run(&call, numbers);
-            claims.check(&call, &outcome);
-            closed = outcome.answer.id;
+            closed = session.run(&call, numbers).answer.id;
         }
         ids.push(closed as u32);
     }
     ids
 }
 
-fn needs_distance(pair: &Pair, root: u32) -> bool {
+/// Whether the plain order does not fit.
+pub fn needs_distance(pair: &Pair, root: u32) -> bool {
     let view = sound(&pair.reference.bytes, &pair.reference.records).expect("sound");
     let graph = Drawn::of(&view);
     orders::plain(&graph, root as usize)
@@ -61,22 +56,30 @@ fn needs_distance(pair: &Pair, root: u32) -> bool {
 }
 
 fn compare(graph: &Graph, numbers: &mut Numbers, seen: &mut Seen) {
-    let (mut pair, mut claims) = begin(graph, numbers);
-    let ids = build(graph, &mut pair, &mut claims, numbers);
+    let mut session = begin(graph, numbers);
+    let ids = build(graph, &mut session, numbers);
+    packs(graph, &ids, &mut session, numbers, seen);
+}
+
+/// Packs the last piece and any other, and the last into too short an output.
+pub fn packs(
+    graph: &Graph,
+    ids: &[u32],
+    session: &mut Checked,
+    numbers: &mut Numbers,
+    seen: &mut Seen,
+) {
     let last = *ids.last().unwrap();
-    let work = claims.work_need();
-    for (id, less) in [(last, 0), (numbers.one_of(&ids), 0), (last, 1)] {
-        let output = claims.history.table_length(id).unwrap() as usize - less;
-        let call = Call::Pack { id, output, work };
-        let outcome = pair.run(&call, numbers);
-        claims.check(&call, &outcome);
-        let accepted = outcome.answer.number == 0;
-        seen.by_distance += usize::from(accepted && needs_distance(&pair, id));
-        seen.one_too_many += usize::from(outcome.answer.needed == 65_536);
+    for (id, less) in [(last, 0), (numbers.one_of(ids), 0), (last, 1)] {
+        let answer = session.pack(id, less, numbers).answer;
+        let accepted = answer.number == 0;
+        seen.by_distance += usize::from(accepted && needs_distance(&session.pair, id));
+        seen.one_too_many += usize::from(answer.needed == 65_536);
+        seen.longest = seen.longest.max(answer.length);
     }
     seen.graphs += 1;
-    seen.calls += pair.told.iter().sum::<usize>();
-    for (sum, count) in seen.told.iter_mut().zip(pair.told) {
+    seen.calls += session.pair.told.iter().sum::<usize>();
+    for (sum, count) in seen.told.iter_mut().zip(session.pair.told) {
         *sum += count;
     }
     seen.most = seen.most.max((graph.len(), shapes::links(graph)));
@@ -132,7 +135,7 @@ const BATCHES: [Batch; 4] = [
     },
 ];
 
-const fn make(fanout: usize, widths: &'static [u32], sizes: &'static [usize]) -> Make {
+pub const fn make(fanout: usize, widths: &'static [u32], sizes: &'static [usize]) -> Make {
     Make {
         pieces: 0,
         fanout,
@@ -165,11 +168,11 @@ fn many_graphs() {
 
 const MIXED: &[u32] = &[2, 3, 3, 4, 4];
 
-/// As many pieces and links as the limits allow.
+/// As many calls as there is time for.
 #[test]
-fn regular_graphs_of_all_pieces_and_links() {
-    largest(
-        "largest regular graphs",
+fn large_regular_graphs() {
+    large(
+        "large regular graphs",
         &[
             (Family::Chain, &[2, 3, 4], &[2]),
             (Family::Lattice, MIXED, &[2, 9, 20]),
@@ -178,9 +181,9 @@ fn regular_graphs_of_all_pieces_and_links() {
 }
 
 #[test]
-fn wide_graphs_of_all_pieces_and_links() {
-    let seen = largest(
-        "largest wide graphs",
+fn large_wide_graphs() {
+    let seen = large(
+        "large wide graphs",
         &[
             (Family::Fan, &[3, 4], &[2, 9]),
             (Family::Shared, MIXED, &[2, 9, 20]),
@@ -191,7 +194,7 @@ fn wide_graphs_of_all_pieces_and_links() {
 
 type Kind = (Family, &'static [u32], &'static [usize]);
 
-fn largest(name: &str, kinds: &[Kind]) -> Seen {
+fn large(name: &str, kinds: &[Kind]) -> Seen {
     let mut numbers = seed::numbers(name);
     let mut seen = Seen::default();
     for &(family, widths, sizes) in kinds {
@@ -226,11 +229,11 @@ fn full(mut graph: Graph) -> Graph {
     graph
 }
 
-fn report(seen: &Seen) {
+pub fn report(seen: &Seen) {
     let (pieces, links) = seen.most;
     println!(
-        "{} graphs, {} calls, up to {pieces} pieces and {links} links",
-        seen.graphs, seen.calls
+        "{} graphs, {} calls, up to {pieces} pieces and {links} links, tables up to {} bytes",
+        seen.graphs, seen.calls, seen.longest
     );
     println!(
         "  told 0: {}, 10: {}, 11: {}",

@@ -3,6 +3,11 @@
 
 mod calls;
 mod cases;
+mod ends;
+mod full;
 mod graphs;
+mod largest;
+mod made;
 mod needs;
 mod tampered;
+mod weights;

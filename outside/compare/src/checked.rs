@@ -1,0 +1,60 @@
+//! A session on both packers, each call held to the history as well.
+
+use crate::claims::Claims;
+use crate::made::{self, Room};
+use crate::pair::{Outcome, Pair};
+use crate::shapes::Graph;
+use reference::call::Call;
+use reference::random::Numbers;
+
+pub struct Checked {
+    pub pair: Pair,
+    pub claims: Claims,
+}
+
+impl Checked {
+    /// A start on stores that hold anything, the record store just long enough.
+    pub fn started(room: Room, numbers: &mut Numbers) -> Checked {
+        let Room {
+            pieces,
+            links,
+            store,
+        } = room;
+        let records = room.layout().need();
+        let mut pair = Pair::new(store, records, numbers);
+        let started = pair.run(&Call::Start { pieces, links }, numbers);
+        assert_eq!(started.answer.number, 0);
+        Checked {
+            pair,
+            claims: Claims::begin(pieces, links, store, records),
+        }
+    }
+
+    /// All pieces of a graph closed, without a call.
+    pub fn made(graph: &Graph, room: Room, numbers: &mut Numbers) -> Checked {
+        let stores = made::stores(graph, room, numbers);
+        let (store, records) = (stores.bytes.len(), stores.records.len());
+        let claims = Claims::begin(room.pieces, room.links, store, records);
+        Checked {
+            pair: Pair::of(stores),
+            claims: claims.with_closed(made::readings(graph)),
+        }
+    }
+
+    pub fn run(&mut self, call: &Call, numbers: &mut Numbers) -> Outcome {
+        let outcome = self.pair.run(call, numbers);
+        self.claims.check(call, &outcome);
+        outcome
+    }
+
+    /// A pack whose output is this many bytes shorter than the table.
+    pub fn pack(&mut self, id: u32, less: usize, numbers: &mut Numbers) -> Outcome {
+        let length = self.claims.history.table_length(id).expect("closed") as usize;
+        let call = Call::Pack {
+            id,
+            output: length - less,
+            work: self.claims.work_need(),
+        };
+        self.run(&call, numbers)
+    }
+}

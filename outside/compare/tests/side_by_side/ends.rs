@@ -1,0 +1,214 @@
+//! Limits and stores at the ends of their ranges, and one past each.
+
+use compare::made::Room;
+use compare::{seed, Checked, Numbers, Pair};
+use reference::call::Call;
+use reference::limits;
+
+const LONGEST: usize = 16_777_216;
+
+/// Two pieces and a link in the longest store.
+const ROOM: Room = Room {
+    pieces: 2,
+    links: 1,
+    store: LONGEST,
+};
+
+/// Bytes of which no two long runs are the same.
+fn bytes(length: usize) -> Vec<u8> {
+    let byte = |at: usize| (at ^ at >> 8 ^ at >> 16).wrapping_mul(0x9d) as u8;
+    (0..length).map(byte).collect()
+}
+
+fn numbers_told(session: &mut Checked, numbers: &mut Numbers, calls: &[(Call, u64)]) {
+    for (call, number) in calls {
+        let told = session.run(call, numbers).answer.number;
+        assert_eq!(told, *number, "{}", name(call));
+    }
+}
+
+/// A call without its bytes.
+fn name(call: &Call) -> String {
+    match call {
+        Call::Put(bytes) => format!("put of {} bytes", bytes.len()),
+        other => format!("{other:?}"),
+    }
+}
+
+/// Starts on stores of these lengths; told 13 if a limit or length is outside
+/// its range.
+fn starts(store: usize, records: usize, limits: &[(u32, u32)], numbers: &mut Numbers) {
+    let mut pair = Pair::new(store, records, numbers);
+    let mut begun = false;
+    for &(pieces, links) in limits {
+        let need = limits::record_need(pieces.into(), links.into());
+        let accepted = (1..=16_384).contains(&pieces)
+            && links <= 65_536
+            && (1..=16_777_216).contains(&store)
+            && records as u64 >= need;
+        let told = pair.run(&Call::Start { pieces, links }, numbers).answer;
+        let number = if accepted { 0 } else { 13 };
+        assert_eq!(told.number, number, "{pieces} {links} {store} {records}");
+        begun |= accepted;
+        let sound = pair.run(&Call::Tally, numbers).answer.number == 0;
+        assert_eq!(sound, begun);
+    }
+}
+
+#[test]
+fn starts_at_the_ends_of_every_range() {
+    let mut numbers = seed::numbers("starts");
+    let most = limits::record_need(16_384, 65_536) as usize;
+    let past = limits::record_need(16_385, 65_537) as usize;
+    let mut limits = Vec::new();
+    for pieces in [0, 1, 4_097, 16_383, 16_384, 16_385, 65_537, u32::MAX] {
+        for links in [0, 1, 16_385, 65_535, 65_536, 65_537, 131_072, u32::MAX] {
+            limits.push((pieces, links));
+        }
+    }
+    for store in [0, 1, 2, 1_048_577] {
+        for records in [0, 136, 137, most - 1, most, past] {
+            starts(store, records, &limits, &mut numbers);
+        }
+    }
+    let ends = [
+        (16_385, 65_536),
+        (16_384, 65_537),
+        (16_384, 65_536),
+        (1, 0),
+        (0, 0),
+    ];
+    for store in [LONGEST - 1, LONGEST, LONGEST + 1] {
+        starts(store, past, &ends, &mut numbers);
+        starts(store, most - 1, &ends, &mut numbers);
+    }
+}
+
+#[test]
+fn a_put_fills_the_longest_store() {
+    let mut numbers = seed::numbers("longest put");
+    let mut session = Checked::started(ROOM, &mut numbers);
+    let whole = bytes(LONGEST);
+    let one = Call::Put(vec![1]);
+    numbers_told(
+        &mut session,
+        &mut numbers,
+        &[
+            (Call::Open, 0),
+            (Call::Put(bytes(LONGEST + 1)), 6),
+            (Call::Put(whole.clone()), 0),
+            (one.clone(), 6),
+            (Call::Put(Vec::new()), 0),
+            (Call::Drop, 0),
+            (Call::Open, 0),
+            (Call::Put(bytes(LONGEST - 1)), 0),
+            (Call::Put(vec![1, 2]), 6),
+            (one.clone(), 0),
+            (one.clone(), 6),
+            (Call::Close, 0),
+            (Call::Tally, 0),
+            (Call::Open, 0),
+            (one, 6),
+            (Call::Link { width: 2, id: 0 }, 6),
+            (Call::Close, 5),
+            (Call::Drop, 0),
+        ],
+    );
+    assert_eq!(session.pack(0, 1, &mut numbers).answer.number, 10);
+    let packed = session.pack(0, 0, &mut numbers);
+    assert_eq!(packed.answer.length, LONGEST as u64);
+    assert!(packed.output.1[..LONGEST - 1] == whole[..LONGEST - 1]);
+}
+
+/// The innermost piece takes up all but a gap, so closing it moves nearly the
+/// whole store over itself.
+#[test]
+fn a_close_moves_nearly_the_whole_store() {
+    let mut numbers = seed::numbers("longest move");
+    for (outer, gap) in [
+        (0, 0),
+        (0, 1),
+        (0, 4_096),
+        (3, 0),
+        (3, 2),
+        (0, 65_537),
+        (9, 8_388_608),
+    ] {
+        let mut session = Checked::started(ROOM, &mut numbers);
+        let calls = [
+            (Call::Open, 0),
+            (Call::Put(b"x".to_vec()), 0),
+            (Call::Close, 0),
+            (Call::Open, 0),
+            (Call::Put(bytes(outer)), 0),
+            (Call::Open, 0),
+            (Call::Link { width: 3, id: 0 }, 0),
+            (Call::Put(bytes(LONGEST - 4 - outer - gap)), 0),
+            (Call::Put(vec![7; gap + 1]), 6),
+            (Call::Close, 0),
+            (Call::Drop, 0),
+        ];
+        numbers_told(&mut session, &mut numbers, &calls);
+        assert_eq!(session.pack(1, 1, &mut numbers).answer.number, 10);
+        let length = (LONGEST - outer - gap) as u64;
+        assert_eq!(session.pack(1, 0, &mut numbers).answer.length, length);
+    }
+}
+
+#[test]
+fn two_halves_of_the_longest_store() {
+    let mut numbers = seed::numbers("halves");
+    let mut session = Checked::started(ROOM, &mut numbers);
+    let half = bytes(LONGEST / 2);
+    let mut other = half.clone();
+    *other.last_mut().unwrap() ^= 1;
+    for (half, id) in [(&half, 0), (&half, 0), (&other, 1), (&other, 1)] {
+        session.run(&Call::Open, &mut numbers);
+        // The store is full when both halves are closed.
+        if session
+            .run(&Call::Put(half.clone()), &mut numbers)
+            .answer
+            .number
+            == 0
+        {
+            assert_eq!(session.run(&Call::Close, &mut numbers).answer.id, id);
+        } else {
+            assert_eq!(session.run(&Call::Drop, &mut numbers).answer.objects, 2);
+        }
+    }
+    assert_eq!(session.pair.told[6], 1);
+}
+
+/// A field at the end of a root, a child of one byte behind it, and nothing
+/// more in the longest store.
+#[test]
+fn the_greatest_offset() {
+    let mut numbers = seed::numbers("greatest offset");
+    let field: [&[u8]; 2] = [&[0xff, 0xff, 0xff, b'x'], &[0, 0xff, 0xff, 0xff, b'x']];
+    for (width, number) in [(2, 11), (3, 0), (4, 0)] {
+        let mut session = Checked::started(ROOM, &mut numbers);
+        let calls = [
+            (Call::Open, 0),
+            (Call::Put(b"x".to_vec()), 0),
+            (Call::Close, 0),
+            (Call::Open, 0),
+            (Call::Put(bytes(LONGEST - 1 - width)), 0),
+            (
+                Call::Link {
+                    width: width as u32,
+                    id: 0,
+                },
+                0,
+            ),
+            (Call::Close, 0),
+        ];
+        numbers_told(&mut session, &mut numbers, &calls);
+        let packed = session.pack(1, 0, &mut numbers);
+        assert_eq!(packed.answer.number, number);
+        if number == 0 {
+            assert_eq!(packed.output.1[LONGEST - 1 - width..], *field[width - 3]);
+        } else {
+            assert_eq!(packed.answer.needed, LONGEST as u64 - 1);
+        }
+    }
+}
