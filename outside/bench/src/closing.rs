@@ -1,4 +1,5 @@
-//! A close with closed pieces to look through, and one in a large store.
+//! A close with closed pieces to look through, one in a large store, and one
+//! that moves nearly the longest store.
 
 use crate::sessions::{Limits, Memory};
 use crate::timing::both;
@@ -18,11 +19,18 @@ const MIB: Limits = Limits {
     store: 1 << 20,
 };
 
+const LONGEST: Limits = Limits {
+    pieces: 2,
+    links: 0,
+    store: 16 << 20,
+};
+
 pub fn lines() -> Vec<Line> {
     let small = closed(&SMALL, 4_000, leaf);
     let wide_ones = closed(&MIB, 4_000, |id| wide(0, id));
     let long_ones = closed(&MIB, 240, long);
     let few = closed(&MIB, 10, leaf);
+    let one = closed(&LONGEST, 1, leaf);
     let wider = [wide(0, 0), vec![0]].concat();
     vec![
         line(
@@ -67,6 +75,8 @@ pub fn lines() -> Vec<Line> {
             leaf(10),
             10,
         ),
+        // All but a leaf and a byte.
+        line("close of 16 MiB", &one, vec![7; LONGEST.store - 9], 1),
     ]
 }
 

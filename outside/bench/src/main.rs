@@ -4,6 +4,7 @@
 //! `cargo run --offline --profile bench --package bench`
 
 mod closing;
+mod looking;
 mod packing;
 mod putting;
 mod sessions;
@@ -40,6 +41,25 @@ fn main() {
             large.reference / small.reference
         );
     }
+    println!(
+        "\n{:<44}{:>12}{:>12}{:>12}{:>9}{:>9}{:>8}",
+        "16 MiB store", "proved µs", "reference", "sum", "GB/s", "sum's", "share"
+    );
+    looking::lines().iter().for_each(print_looking);
+}
+
+/// Speeds in gigabytes a second, of what is looked at and of what is summed.
+fn print_looking(line: &looking::Line) {
+    let looked_at = line.looked_at as f64 / line.proved / 1e3;
+    let summed = line.summed as f64 / line.sum / 1e3;
+    println!(
+        "{:<44}{:>12.1}{:>12.1}{:>12.1}{looked_at:>9.1}{summed:>9.1}{:>8.2}",
+        line.what,
+        line.proved,
+        line.reference,
+        line.sum,
+        looked_at / summed
+    );
 }
 
 fn print(line: &Line) {

@@ -39,11 +39,15 @@ impl Memory {
         accepted(calls::put(&mut self.store, &mut self.records, bytes));
     }
 
+    pub fn link(&mut self, width: u32, id: u32) {
+        accepted(calls::link(&mut self.store, &mut self.records, width, id));
+    }
+
     /// A closed piece: links of these widths and children, then bytes.
     pub fn piece(&mut self, links: &[(u32, u32)], bytes: &[u8]) -> u32 {
         self.open();
         for &(width, id) in links {
-            accepted(calls::link(&mut self.store, &mut self.records, width, id));
+            self.link(width, id);
         }
         self.put(bytes);
         accepted(calls::close(&mut self.store, &mut self.records)).id as u32

@@ -12,23 +12,28 @@ pub struct Times {
 /// is handed to each call anew and is not timed.
 pub fn both<M>(
     turns: usize,
-    mut reset: impl FnMut() -> M,
+    reset: impl FnMut() -> M,
     mut proved: impl FnMut(&mut M),
     mut reference: impl FnMut(&mut M),
 ) -> Times {
-    let mut times = Times {
-        proved: f64::MAX,
-        reference: f64::MAX,
-    };
-    for _ in 0..turns {
-        times.proved = times.proved.min(once(reset(), &mut proved));
-        times.reference = times.reference.min(once(reset(), &mut reference));
-    }
-    times
+    let [proved, reference] = least(turns, reset, [&mut proved, &mut reference]);
+    Times { proved, reference }
 }
 
-fn once<M>(mut memory: M, call: &mut impl FnMut(&mut M)) -> f64 {
-    let began = Instant::now();
-    call(&mut memory);
-    began.elapsed().as_secs_f64() * 1e6
+/// The same of any number of calls.
+pub fn least<M, const N: usize>(
+    turns: usize,
+    mut reset: impl FnMut() -> M,
+    mut calls: [&mut dyn FnMut(&mut M); N],
+) -> [f64; N] {
+    let mut times = [f64::MAX; N];
+    for _ in 0..turns {
+        for (time, call) in times.iter_mut().zip(&mut calls) {
+            let mut memory = reset();
+            let began = Instant::now();
+            call(&mut memory);
+            *time = time.min(began.elapsed().as_secs_f64() * 1e6);
+        }
+    }
+    times
 }

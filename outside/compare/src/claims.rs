@@ -5,6 +5,7 @@ use crate::pair::Outcome;
 use reference::call::Call;
 use reference::history::History;
 use reference::limits;
+use reference::lines::script;
 use reference::reader;
 use reference::reading::Reading;
 use reference::Answer;
@@ -47,7 +48,7 @@ impl Claims {
             return self.check_pack(*id, outcome);
         }
         let expected = self.history.feed(call, store, records);
-        assert_eq!(Some(outcome.answer), expected, "{call:?}");
+        assert_eq!(Some(outcome.answer), expected, "{}", script(call));
         if let (Call::Start { pieces, links }, 0) = (call, outcome.answer.number) {
             self.need = limits::work_need((*pieces).into(), (*links).into()) as usize;
         }

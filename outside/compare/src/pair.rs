@@ -3,6 +3,7 @@
 use crate::fenced::Fenced;
 use crate::proved::Proved;
 use reference::call::{Call, Stores};
+use reference::lines::script;
 use reference::random::Numbers;
 use reference::Answer;
 
@@ -67,21 +68,16 @@ impl Pair {
             .proved
             .run(call, proved_out.inside_mut(), proved_work.inside_mut());
 
-        assert_eq!(answer, expected, "{call:?}");
-        assert!(self.proved.same(&self.reference), "stores after {call:?}");
-        assert!(proved_out.inside() == out, "output after {call:?}");
-        assert!(proved_work.inside() == memory, "work memory after {call:?}");
+        let line = || script(call);
+        assert_eq!(answer, expected, "{}", line());
+        assert!(self.proved.same(&self.reference), "stores: {}", line());
+        assert!(proved_out.inside() == out, "output: {}", line());
+        assert!(proved_work.inside() == memory, "work memory: {}", line());
         let fences = self.proved.fences_stand() && proved_out.stands() && proved_work.stands();
-        assert!(fences, "a write outside lent memory by {call:?}");
+        assert!(fences, "a write outside lent memory: {}", line());
         if answer.number != 0 {
-            assert!(
-                self.proved.same(&self.before),
-                "{call:?} refused, and stores changed"
-            );
-            assert!(
-                proved_out.inside() == output,
-                "{call:?} refused, and output changed"
-            );
+            let stand = self.proved.same(&self.before) && proved_out.inside() == output;
+            assert!(stand, "refused, and memory changed: {}", line());
         }
         Outcome {
             answer,

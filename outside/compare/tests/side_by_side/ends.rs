@@ -1,11 +1,11 @@
 //! Limits and stores at the ends of their ranges, and one past each.
 
-use compare::made::Room;
+use compare::largest::LONGEST;
+use compare::made::{self, Room};
 use compare::{seed, Checked, Numbers, Pair};
 use reference::call::Call;
 use reference::limits;
-
-const LONGEST: usize = 16_777_216;
+use reference::lines::script;
 
 /// Two pieces and a link in the longest store.
 const ROOM: Room = Room {
@@ -23,15 +23,7 @@ fn bytes(length: usize) -> Vec<u8> {
 fn numbers_told(session: &mut Checked, numbers: &mut Numbers, calls: &[(Call, u64)]) {
     for (call, number) in calls {
         let told = session.run(call, numbers).answer.number;
-        assert_eq!(told, *number, "{}", name(call));
-    }
-}
-
-/// A call without its bytes.
-fn name(call: &Call) -> String {
-    match call {
-        Call::Put(bytes) => format!("put of {} bytes", bytes.len()),
-        other => format!("{other:?}"),
+        assert_eq!(told, *number, "{}", script(call));
     }
 }
 
@@ -44,7 +36,7 @@ fn starts(store: usize, records: usize, limits: &[(u32, u32)], numbers: &mut Num
         let need = limits::record_need(pieces.into(), links.into());
         let accepted = (1..=16_384).contains(&pieces)
             && links <= 65_536
-            && (1..=16_777_216).contains(&store)
+            && (1..=LONGEST).contains(&store)
             && records as u64 >= need;
         let told = pair.run(&Call::Start { pieces, links }, numbers).answer;
         let number = if accepted { 0 } else { 13 };
@@ -81,6 +73,42 @@ fn starts_at_the_ends_of_every_range() {
     for store in [LONGEST - 1, LONGEST, LONGEST + 1] {
         starts(store, past, &ends, &mut numbers);
         starts(store, most - 1, &ends, &mut numbers);
+    }
+}
+
+/// What a start would leave, had it been accepted with any limits and lengths.
+#[test]
+fn soundness_at_the_ends_of_every_range() {
+    let mut numbers = seed::numbers("soundness");
+    for (pieces, links, store, sound) in [
+        (1, 0, 1, true),
+        (0, 0, 1, false),
+        (1, 0, 0, false),
+        (16_384, 0, 8, true),
+        (16_385, 0, 8, false),
+        (1, 65_536, 8, true),
+        (1, 65_537, 8, false),
+        (1, 0, LONGEST, true),
+        (1, 0, LONGEST + 1, false),
+        (16_384, 65_536, LONGEST, true),
+        (16_385, 65_537, LONGEST + 1, false),
+    ] {
+        let room = Room {
+            pieces,
+            links,
+            store,
+        };
+        let mut pair = Pair::of(made::stores(&Vec::new(), room, &mut numbers));
+        let pack = Call::Pack {
+            id: 0,
+            output: 0,
+            work: limits::work_need(pieces.into(), links.into()) as usize,
+        };
+        let put = Call::Put(b"a".to_vec());
+        for call in [Call::Tally, pack, Call::Open, put, Call::Close, Call::Drop] {
+            let number = pair.run(&call, &mut numbers).answer.number;
+            assert_eq!(number != 12, sound, "{room:?} {call:?}");
+        }
     }
 }
 

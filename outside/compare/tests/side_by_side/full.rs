@@ -6,6 +6,7 @@ use compare::made::Room;
 use compare::shapes::{self, Family, Graph, Piece};
 use compare::{seed, Checked, Numbers};
 use reference::call::Call;
+use reference::lines::script;
 
 const KINDS: [Kind; 4] = [
     Kind::small(Family::Lattice, MIXED),
@@ -23,7 +24,7 @@ impl Session<'_> {
     /// Runs a call that tells this number.
     fn tells(&mut self, number: u64, call: Call) {
         let answer = self.checked.run(&call, self.numbers).answer;
-        assert_eq!(answer.number, number, "{call:?}");
+        assert_eq!(answer.number, number, "{}", script(&call));
     }
 
     fn put(&mut self, number: u64, bytes: &[u8]) {
@@ -159,8 +160,8 @@ fn duplicates_when_all_pieces_are_closed() {
     }
 }
 
-/// Pieces like this one and no other: of another byte, or of a link to another
-/// piece.
+/// Pieces that differ from this one in a byte or in a link's child, and from
+/// all others too.
 fn unlike(piece: &Piece) -> Vec<Piece> {
     let (mut byte, mut link) = (piece.clone(), piece.clone());
     byte.bytes[0] ^= 0x80;

@@ -47,7 +47,7 @@ pub fn build(graph: &Graph, session: &mut Checked, numbers: &mut Numbers) -> Vec
 }
 
 /// Whether the plain order does not fit.
-pub fn needs_distance(pair: &Pair, root: u32) -> bool {
+fn needs_distance(pair: &Pair, root: u32) -> bool {
     let view = sound(&pair.reference.bytes, &pair.reference.records).expect("sound");
     let graph = Drawn::of(&view);
     orders::plain(&graph, root as usize)

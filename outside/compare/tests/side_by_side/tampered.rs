@@ -9,6 +9,7 @@ use compare::shapes::{self, Family};
 use compare::{seed, tamper, Checked, Numbers, Pair};
 use reference::call::{Call, Stores};
 use reference::limits;
+use reference::lines::script;
 use reference::sound::sound;
 use std::ops::Range;
 
@@ -63,7 +64,7 @@ impl Seen {
         let is_sound = sound(&pair.reference.bytes, &pair.reference.records).is_some();
         let number = pair.run(call, numbers).answer.number;
         if !matches!(call, Call::Start { .. }) {
-            assert_eq!(number == 12, !is_sound, "{call:?}");
+            assert_eq!(number == 12, !is_sound, "{}", script(call));
         }
         let count = if is_sound {
             &mut self.sound
