@@ -13,14 +13,15 @@ use reference::session;
 use reference::sound::sound;
 use std::hint::black_box;
 
-/// Times in microseconds, and how much of both stores has to be looked at.
+/// Times in microseconds, and lengths in bytes.
 pub struct Line {
     pub what: String,
     pub proved: f64,
     pub reference: f64,
     pub sum: f64,
-    /// Bytes that soundness is about, and all bytes, which are summed.
+    /// What soundness is about.
     pub looked_at: usize,
+    /// Both stores.
     pub summed: usize,
 }
 

@@ -1,9 +1,11 @@
 //! How long the proved library takes, and how many times that is the
-//! reference's time, both measured in one run on the same memory.
+//! reference's time, both measured in one run on the same memory; and how fast
+//! it looks at the longest store.
 //!
 //! `cargo run --offline --profile bench --package bench`
 
 mod closing;
+mod largest;
 mod looking;
 mod packing;
 mod putting;
@@ -27,6 +29,7 @@ fn main() {
     closing::lines().iter().for_each(print);
     let packs = packing::lines();
     packs.iter().for_each(print);
+    largest::lines().iter().for_each(print);
     println!(
         "\n{:<44}{:>12}{:>12}",
         "growth from 1,000 to 4,000 pieces", "proved", "reference"
@@ -42,8 +45,8 @@ fn main() {
         );
     }
     println!(
-        "\n{:<44}{:>12}{:>12}{:>12}{:>9}{:>9}{:>8}",
-        "16 MiB store", "proved µs", "reference", "sum", "GB/s", "sum's", "share"
+        "\n{:<44}{:>12}{:>12}{:>12}{:>10}{:>10}{:>8}",
+        "16 MiB store", "proved µs", "reference", "sum", "GB/s", "sum GB/s", "share"
     );
     looking::lines().iter().for_each(print_looking);
 }
@@ -53,7 +56,7 @@ fn print_looking(line: &looking::Line) {
     let looked_at = line.looked_at as f64 / line.proved / 1e3;
     let summed = line.summed as f64 / line.sum / 1e3;
     println!(
-        "{:<44}{:>12.1}{:>12.1}{:>12.1}{looked_at:>9.1}{summed:>9.1}{:>8.2}",
+        "{:<44}{:>12.1}{:>12.1}{:>12.1}{looked_at:>10.1}{summed:>10.1}{:>8.2}",
         line.what,
         line.proved,
         line.reference,

@@ -1,7 +1,7 @@
 //! A pack by the plain order, and one in which only the distance order fits.
 
 use crate::sessions::{Limits, Memory};
-use crate::timing::both;
+use crate::timing::{both, Times};
 use crate::Line;
 use bindings::calls;
 use reference::graph::Graph;
@@ -43,20 +43,24 @@ fn line(name: &str, shape: Shape, count: u32, large: bool) -> Line {
     assert_eq!(plain_fits(&memory, root), !large);
     let order = if large { "distance" } else { "plain" };
     let work = bindings::work_need(limits.pieces, limits.links);
-    let (store, records) = (&memory.store, &memory.records);
-    let times = both(
-        12,
-        || (vec![0; limits.store], vec![0; work]),
-        |(out, work)| assert_eq!(calls::pack(store, records, root, out, work).number, 0),
-        |(out, work)| assert_eq!(reference::pack(store, records, root, out, work).number, 0),
-    );
     Line {
         what: format!("pack, {order} order, {name} of {count}"),
-        times,
+        times: timed(&memory, root, work),
     }
 }
 
-fn plain_fits(memory: &Memory, root: u32) -> bool {
+/// A pack that fits, with so many words of work memory.
+pub fn timed(memory: &Memory, root: u32, work: usize) -> Times {
+    let (store, records) = (&memory.store, &memory.records);
+    both(
+        12,
+        || (vec![0; store.len()], vec![0; work]),
+        |(out, work)| assert_eq!(calls::pack(store, records, root, out, work).number, 0),
+        |(out, work)| assert_eq!(reference::pack(store, records, root, out, work).number, 0),
+    )
+}
+
+pub fn plain_fits(memory: &Memory, root: u32) -> bool {
     let graph = Graph::of(&sound(&memory.store, &memory.records).expect("sound"));
     orders::plain(&graph, root as usize)
         .overflow(&graph)
