@@ -60,7 +60,7 @@ module _ (b w : List ℕ) (h : sound b w ≡ true) (id : ℕ) (known : id < clos
 
   -- in an order of what the root reaches, each placed once
   module _ (o : List ℕ) (once : (c : ℕ) → count c o ≡ count c (reached g id)) (p : ℕ) (l : Link) (k : 0 < count p o) (i : In l (g .links p)) where
-    pub wide-fits : mostBytes ≤ capacity (l .width) → fits (l .width) (offset (placeOf g o) p l) ≡ true
+    pub wide-fits : mostBytes ≤ capacity (l .slot .width) → fits (l .slot .width) (offset (placeOf g o) p l) ≡ true
     unfolding Closed
     wide-fits wide =
         let c = l .child in
@@ -71,8 +71,8 @@ module _ (b w : List ℕ) (h : sound b w ≡ true) (id : ℕ) (known : id < clos
         mostBytes (rw (total-bag (g .size) o (reached g id) once) reached-most) wide
 
     -- widths 3 and 4 always fit
-    pub three-fits : l .width ≡ 3 → fits (l .width) (offset (placeOf g o) p l) ≡ true
+    pub three-fits : l .slot .width ≡ 3 → fits (l .slot .width) (offset (placeOf g o) p l) ≡ true
     three-fits e = wide-fits (rw e (omega arith))
 
-    pub four-fits : l .width ≡ 4 → fits (l .width) (offset (placeOf g o) p l) ≡ true
+    pub four-fits : l .slot .width ≡ 4 → fits (l .slot .width) (offset (placeOf g o) p l) ≡ true
     four-fits e = wide-fits (rw e (omega arith))

@@ -20,7 +20,7 @@ use Rattle.layout.specs.Sound.{sound}
 use Rattle.layout.specs.Decode.{decode}
 use Rattle.layout.specs.Known.{Sound}
 use Rattle.layout.proofs.Facts.{sound-facts}
-use Rattle.steps.specs.Steps.{tallyIn, limitsOf, startWords, under, linkUnder, linkWordsOf, newLinkLow, sealedWords, twinIn, closeTwin, closeNew, startStep, openStep, putStep, linkStep, dropStep, tallyStep, closeStep}
+use Rattle.steps.specs.Steps.{tallyIn, limitsOf, startWords, linkUnder, madeLink, linkWordsOf, newLinkLow, sealedWords, twinIn, closeTwin, closeNew, startStep, openStep, putStep, linkStep, dropStep, tallyStep, closeStep}
 use Rattle.steps.specs.Runs.{StoreCall, start, open', put, link, close, drop as drop', tally, Stores, stepOn, onStores, asCall, needsWith}
 use Rattle.steps.proofs.Tallies.{limits-decode}
 use Rattle.steps.proofs.Started.{Startable, startable}
@@ -59,7 +59,7 @@ module _ {b w : List ℕ} (s : Sound b w) where
   link-past width id h =
       drop-set-lt n _ (linkEndsAt + openDepth w) (linkTop w + 1) (omega arith)
       ∙ drop-set-lt n _ (endsAt + openDepth w) (top w + width) (omega arith)
-      ∙ over-drop (linksAt w + linkTop w * linkWords) (wordsOf (record { at = top w - under w; width = width; child = id })) w (omega arith) n (omega arith)
+      ∙ over-drop (linksAt w + linkTop w * linkWords) (wordsOf (madeLink width id w)) w (omega arith) n (omega arith)
 
   drop-past : (x : ℕ) → drop n (set w 2 x) ≡ drop n w
   drop-past x = drop-set-lt n w 2 x (omega arith)

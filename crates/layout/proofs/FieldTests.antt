@@ -4,7 +4,7 @@ use Prim.Native.Nat.{ℕ, _+_, _≤_, _<_}
 use mathlib.Core.List.{List}
 use mathlib.Core.Bool.{true, _&&_, and-true}
 use borrow.Author.Tests.{le-leb, lt-ltb}
-use lib.ListN.{length, drop, getD, drop-of-length-le}
+use lib.ListN.{length, drop, drop-of-length-le}
 use Rattle.lists.specs.Lists.{part, holds, zeros}
 use Rattle.model.specs.Object.{Link, widthOk}
 use Rattle.layout.specs.Words.{linkWords, linksOf, linkAt}
@@ -12,15 +12,15 @@ use Rattle.layout.specs.Fields.{fieldTests, fieldsOk}
 use Rattle.layout.proofs.Links.{linksOf-next}
 
 -- a field that passes the other tests is right exactly if its bytes are zero
-pub field-bytes : (kids from : ℕ) (bs : List ℕ) (l : Link) → from ≤ l .at → widthOk (l .width) ≡ true → l .at + l .width ≤ length bs → l .child < kids
-    → zeros (part (l .at) (l .at + l .width) bs) ≡ holds (fieldTests kids from bs l)
+pub field-bytes : (kids from : ℕ) (bs : List ℕ) (l : Link) → from ≤ l .slot .at → widthOk (l .slot .width) ≡ true → l .slot .at + l .slot .width ≤ length bs → l .child < kids
+    → zeros (part (l .slot .at) (l .slot .at + l .slot .width) bs) ≡ holds (fieldTests kids from bs l)
 unfolding fieldTests holds
 field-bytes kids from bs l a b c d = rw (le-leb _ _ a, b, le-leb _ _ c, lt-ltb _ _ d, and-true)
 
 module _ (kids from : ℕ) (bs ws : List ℕ) (i : ℕ) where
-  pub fields-next : i + 2 < length ws
+  pub fields-next : i + linkWords ≤ length ws
       → fieldsOk kids from bs (linksOf (drop i ws))
-      ≡ (holds (fieldTests kids from bs (linkAt ws i)) && fieldsOk kids (getD ws i 0 + getD ws (i + 1) 0) bs (linksOf (drop (i + linkWords) ws)))
+      ≡ (holds (fieldTests kids from bs (linkAt ws i)) && fieldsOk kids (linkAt ws i .slot .at + linkAt ws i .slot .width) bs (linksOf (drop (i + linkWords) ws)))
   unfolding fieldsOk
   fields-next h = rw (linksOf-next ws i h)
 

@@ -1,6 +1,6 @@
 -- Links by their words: the laws that a change of the link's record touches.
 use mathlib.Core.Path.{_≡_, refl, ap}
-use Prim.Native.Nat.{ℕ, zero, suc, _+_, _*_, _≤_, _<_}
+use Prim.Native.Nat.{ℕ, zero, suc, _+_, _*_, _≤_}
 use mathlib.Core.List.{List, [], _∷_, _++_}
 use native.Mathlib.Omega.{arith}
 use lib.ListN.{length, drop}
@@ -10,12 +10,12 @@ use Rattle.lists.proofs.Parts.{part-part}
 use Rattle.model.specs.Object.{Link}
 use Rattle.layout.specs.Words.{linkWords, linksAt, linkLimit, linkArea, wordsOf, linksOf, linkAt}
 
-pub linksOf-next : (ws : List ℕ) (i : ℕ) → i + 2 < length ws → linksOf (drop i ws) ≡ linkAt ws i ∷ linksOf (drop (i + linkWords) ws)
+pub linksOf-next : (ws : List ℕ) (i : ℕ) → i + linkWords ≤ length ws → linksOf (drop i ws) ≡ linkAt ws i ∷ linksOf (drop (i + linkWords) ws)
 unfolding linksOf
 linksOf-next ws i h =
     let a : i + 1 + 1 ≡ i + 2 = omega arith in
     let b : i + 2 + 1 ≡ i + linkWords = omega arith in
-    rw (drop-first i ws (omega arith), drop-first (i + 1) ws (omega arith), a, drop-first (i + 2) ws h, b)
+    rw (drop-first i ws (omega arith), drop-first (i + 1) ws (omega arith), a, drop-first (i + 2) ws (omega arith), b)
 
 pub linksOf-words : (l : Link) → linksOf (wordsOf l) ≡ l ∷ []
 unfolding linksOf

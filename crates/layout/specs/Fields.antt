@@ -10,12 +10,17 @@ use Rattle.model.specs.Object.{Link, Object, widthOk}
 -- a field at or past `from`, of a width that it may have, inside the bytes, to a child below `kids`, its bytes zero
 unfoldable pub fieldTests : ℕ → ℕ → List ℕ → Link → List Bool
 fieldTests kids from bs l =
-    leb from (l .at) ∷ widthOk (l .width) ∷ leb (l .at + l .width) (length bs) ∷ ltb (l .child) kids ∷ zeros (part (l .at) (l .at + l .width) bs) ∷ []
+    leb from (l .slot .at)
+    ∷ widthOk (l .slot .width)
+    ∷ leb (l .slot .at + l .slot .width) (length bs)
+    ∷ ltb (l .child) kids
+    ∷ zeros (part (l .slot .at) (l .slot .at + l .slot .width) bs)
+    ∷ []
 
 -- fields rising and apart
 unfoldable pub fieldsOk : ℕ → ℕ → List ℕ → List Link → Bool
 fieldsOk kids from bs [] = true
-fieldsOk kids from bs (l ∷ ls) = holds (fieldTests kids from bs l) && fieldsOk kids (l .at + l .width) bs ls
+fieldsOk kids from bs (l ∷ ls) = holds (fieldTests kids from bs l) && fieldsOk kids (l .slot .at + l .slot .width) bs ls
 
 abbrev pub objectOk : ℕ → Object → Bool
 objectOk kids o = fieldsOk kids 0 (o .bytes) (o .links)

@@ -3,11 +3,11 @@ use Prim.Native.Nat.{ℕ, _^_, _<_}
 use mathlib.Core.Path.{_≡_}
 use mathlib.Core.List.{List}
 use Rattle.model.specs.Object.{Link}
-use Rattle.layout.specs.Words.{linkAt}
+use Rattle.layout.specs.Words.{linkOfWords, linkAt}
 use Rattle.layout.specs.declared.link.Link as read
 
 abbrev pub linkIn : read.Link → Link
-linkIn l = record { at = l .at; width = l .width; child = l .child }
+linkIn l = linkOfWords (l .at) (l .width) (l .child)
 
 -- the link whose words begin at index i; a word holds each number
 pub record LinkRead (ws : List ℕ) (i : ℕ) (l : read.Link) : Type 0 where

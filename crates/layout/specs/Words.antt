@@ -6,7 +6,7 @@ use native.Mathlib.Omega.{arith}
 use lib.ListN.{getD}
 use Rattle.lists.specs.Lists.{part}
 unfoldable pub use Rattle.model.specs.Words.{linksOf}
-pub use Rattle.model.specs.Words.{linkWords, wordsOf, linkAt}
+pub use Rattle.model.specs.Words.{linkWords, wordsOf, linkOfWords, linkAt}
 use Rattle.model.specs.Judge.{mostOpen, mostNeed, Limits}
 
 -- ---- the header

@@ -1,7 +1,8 @@
 // A link, read from its words.
 use crate::words::word;
-ghost use Prim.Native.Nat.{_+_, _<_};
+ghost use Prim.Native.Nat.{_+_, _≤_};
 ghost use lib.ListN.{length};
+ghost use Rattle.layout.specs.Words.{linkWords};
 ghost use Rattle.layout.specs.Links.{LinkRead};
 
 // The field's place in its object, its width, and the child's id.
@@ -13,7 +14,7 @@ pub struct Link {
 
 // The link whose words begin at index i.
 pub fn link_at(words: &[u32], i: usize) -> Link
-    requires { ⌜ i + 2 < length (now words) ⌝ }
+    requires { ⌜ i + linkWords ≤ length (now words) ⌝ }
     ensures { λ r. ⌜ LinkRead (now (words .entry)) i r ⌝ }
 {
     Link {

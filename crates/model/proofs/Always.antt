@@ -24,8 +24,8 @@ module _ (g : Graph) (o : List ℕ) (closed : Closed g o) (p : ℕ) (l : Link) (
   unfolding offset Closed
   offset-below = omega (arith, before-end (g .size) o (l .child) (closed p (l .child) h (in-kids l (g .links p) i)))
 
-  pub always-fits : (n : ℕ) → total (g .size) o ≤ n → n ≤ capacity (l .width) → fits (l .width) (offset (placeOf g o) p l) ≡ true
-  always-fits n a b = lt-ltb (offset (placeOf g o) p l) (capacity (l .width)) (omega (arith, offset-below))
+  pub always-fits : (n : ℕ) → total (g .size) o ≤ n → n ≤ capacity (l .slot .width) → fits (l .slot .width) (offset (placeOf g o) p l) ≡ true
+  always-fits n a b = lt-ltb (offset (placeOf g o) p l) (capacity (l .slot .width)) (omega (arith, offset-below))
 
 -- ---- sizes
 

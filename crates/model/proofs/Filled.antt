@@ -25,69 +25,71 @@ front-part f x b a w e h k =
 -- no field of ls has place k
 unfoldable pub Clear : ℕ → List Link → Type 0
 Clear k [] = Unit {0}
-Clear k (l ∷ ls) = ((k < l .at) ⊎ (l .at + l .width ≤ k)) × Clear k ls
+Clear k (l ∷ ls) = ((k < l .slot .at) ⊎ (l .slot .at + l .slot .width ≤ k)) × Clear k ls
 
 -- a field lies inside
-pub field-room : (from n : ℕ) (l : Link) (ls : List Link) → FieldsIn from n ls → In l ls → l .at + l .width ≤ n
+pub field-room : (from n : ℕ) (l : Link) (ls : List Link) → FieldsIn from n ls → In l ls → l .slot .at + l .slot .width ≤ n
 unfolding FieldsIn
 field-room from n l (m ∷ ls) f (here e) = rw e (f .1)
-field-room from n l (m ∷ ls) f (there i) = field-room (m .at + m .width) n l ls (f .2) i
+field-room from n l (m ∷ ls) f (there i) = field-room (m .slot .at + m .slot .width) n l ls (f .2) i
 
 module _ (off : Link → ℕ) where
   -- one field written
   unfoldable pub wrote : Link → List ℕ → List ℕ
-  wrote l bs = over (l .at) (bigEndian (l .width) (off l)) bs
+  wrote l bs = over (l .slot .at) (bigEndian (l .slot .width) (off l)) bs
 
-  inside : (l : Link) (bs : List ℕ) → l .at + l .width ≤ length bs → l .at + length (bigEndian (l .width) (off l)) ≤ length bs
+  inside : (l : Link) (bs : List ℕ) → l .slot .at + l .slot .width ≤ length bs → l .slot .at + length (bigEndian (l .slot .width) (off l)) ≤ length bs
   inside l bs h = rw length-big h
 
-  pub length-wrote : (l : Link) (bs : List ℕ) → l .at + l .width ≤ length bs → length (wrote l bs) ≡ length bs
+  pub length-wrote : (l : Link) (bs : List ℕ) → l .slot .at + l .slot .width ≤ length bs → length (wrote l bs) ≡ length bs
   unfolding wrote
-  length-wrote l bs h = length-over (l .at) (bigEndian (l .width) (off l)) bs (inside l bs h)
+  length-wrote l bs h = length-over (l .slot .at) (bigEndian (l .slot .width) (off l)) bs (inside l bs h)
 
   pub length-filled : (from n : ℕ) (ls : List Link) (bs : List ℕ) → length bs ≡ n → FieldsIn from n ls → length (filled off ls bs) ≡ n
   unfolding filled FieldsIn wrote
   length-filled from n [] bs e f = e
-  length-filled from n (l ∷ ls) bs e f = length-filled (l .at + l .width) n ls (wrote l bs) (length-wrote l bs (omega (arith, f .1)) ∙ e) (f .2)
+  length-filled from n (l ∷ ls) bs e f = length-filled (l .slot .at + l .slot .width) n ls (wrote l bs) (length-wrote l bs (omega (arith, f .1)) ∙ e) (f .2)
 
   -- bytes outside the fields stand
   pub filled-clear : (from n k : ℕ) (ls : List Link) (bs : List ℕ) → length bs ≡ n → FieldsIn from n ls → Clear k ls → getD (filled off ls bs) k 0 ≡ getD bs k 0
   unfolding filled FieldsIn Clear wrote
   filled-clear from n k [] bs e f c = refl
   filled-clear from n k (l ∷ ls) bs e f c =
-      let h : l .at + l .width ≤ length bs = omega (arith, f .1) in
-      filled-clear (l .at + l .width) n k ls (wrote l bs) (length-wrote l bs h ∙ e) (f .2) (c .1) ∙ go h (c .0)
+      let h : l .slot .at + l .slot .width ≤ length bs = omega (arith, f .1) in
+      filled-clear (l .slot .at + l .slot .width) n k ls (wrote l bs) (length-wrote l bs h ∙ e) (f .2) (c .1) ∙ go h (c .0)
     where
-      go : l .at + l .width ≤ length bs → (k < l .at) ⊎ (l .at + l .width ≤ k) → getD (wrote l bs) k 0 ≡ getD bs k 0
-      go h (inl a) = field-before (l .at) (l .width) (off l) bs h k a
-      go h (inr a) = field-after (l .at) (l .width) (off l) bs h k a
+      go : l .slot .at + l .slot .width ≤ length bs → (k < l .slot .at) ⊎ (l .slot .at + l .slot .width ≤ k) → getD (wrote l bs) k 0 ≡ getD bs k 0
+      go h (inl a) = field-before (l .slot .at) (l .slot .width) (off l) bs h k a
+      go h (inr a) = field-after (l .slot .at) (l .slot .width) (off l) bs h k a
 
   -- the bytes before the first field stand
   filled-front : (from n m : ℕ) (ls : List Link) (bs : List ℕ) → m ≤ from → length bs ≡ n → FieldsIn from n ls → take m (filled off ls bs) ≡ take m bs
   unfolding filled FieldsIn wrote
   filled-front from n m [] bs h e f = refl
   filled-front from n m (l ∷ ls) bs h e f =
-      let k : l .at + l .width ≤ length bs = omega (arith, f .1) in
-      filled-front (l .at + l .width) n m ls (wrote l bs) (omega (arith, f .0)) (length-wrote l bs k ∙ e) (f .2)
-      ∙ over-take (l .at) (bigEndian (l .width) (off l)) bs (inside l bs k) m (omega (arith, f .0))
+      let k : l .slot .at + l .slot .width ≤ length bs = omega (arith, f .1) in
+      filled-front (l .slot .at + l .slot .width) n m ls (wrote l bs) (omega (arith, f .0)) (length-wrote l bs k ∙ e) (f .2)
+      ∙ over-take (l .slot .at) (bigEndian (l .slot .width) (off l)) bs (inside l bs k) m (omega (arith, f .0))
 
   -- the first field holds its offset
   filled-field : (from n : ℕ) (l : Link) (ls : List Link) (bs : List ℕ) → length bs ≡ n → FieldsIn from n (l ∷ ls)
-      → part (l .at) (l .at + l .width) (filled off (l ∷ ls) bs) ≡ bigEndian (l .width) (off l)
+      → part (l .slot .at) (l .slot .at + l .slot .width) (filled off (l ∷ ls) bs) ≡ bigEndian (l .slot .width) (off l)
   unfolding filled FieldsIn wrote over
   filled-field from n l ls bs e f =
-      let b = length-big (l .width) (off l) in
-      let k : l .at + l .width ≤ length bs = omega (arith, f .1) in
-      let q : length (take (l .at) bs) ≡ l .at = length-take-le (l .at) bs (omega arith) in
-      let front : take (l .at + l .width) (filled off ls (wrote l bs)) ≡ take (l .at) bs ++ bigEndian (l .width) (off l) =
-      filled-front (l .at + l .width) n (l .at + l .width) ls (wrote l bs) (omega arith) (length-wrote l bs k ∙ e) (f .2)
-      ∙ ap (λ (z : List ℕ). take (l .at + l .width) z) (sym (append-assoc (take (l .at) bs) (bigEndian (l .width) (off l)) _))
-      ∙ take-at (take (l .at) bs ++ bigEndian (l .width) (off l)) _ (l .at + l .width) (omega (arith, length-append (take (l .at) bs) (bigEndian (l .width) (off l)))) in
-      front-part (filled off ls (wrote l bs)) (take (l .at) bs) (bigEndian (l .width) (off l)) (l .at) (l .width) front q b
+      let s = l .slot in
+      let field = bigEndian (s .width) (off l) in
+      let b = length-big (s .width) (off l) in
+      let k : s .at + s .width ≤ length bs = omega (arith, f .1) in
+      let q : length (take (s .at) bs) ≡ s .at = length-take-le (s .at) bs (omega arith) in
+      let front : take (s .at + s .width) (filled off ls (wrote l bs)) ≡ take (s .at) bs ++ field =
+      filled-front (s .at + s .width) n (s .at + s .width) ls (wrote l bs) (omega arith) (length-wrote l bs k ∙ e) (f .2)
+      ∙ ap (λ (z : List ℕ). take (s .at + s .width) z) (sym (append-assoc (take (s .at) bs) field _))
+      ∙ take-at (take (s .at) bs ++ field) _ (s .at + s .width) (omega (arith, length-append (take (s .at) bs) field)) in
+      front-part (filled off ls (wrote l bs)) (take (s .at) bs) field (s .at) (s .width) front q b
 
   -- and so does every field
   pub filled-at : (from n : ℕ) (l : Link) (ls : List Link) (bs : List ℕ) → length bs ≡ n → FieldsIn from n ls → In l ls
-      → part (l .at) (l .at + l .width) (filled off ls bs) ≡ bigEndian (l .width) (off l)
+      → part (l .slot .at) (l .slot .at + l .slot .width) (filled off ls bs) ≡ bigEndian (l .slot .width) (off l)
   unfolding filled FieldsIn wrote
   filled-at from n l (m ∷ ls) bs e f (here q) = rw q (filled-field from n m ls bs e f)
-  filled-at from n l (m ∷ ls) bs e f (there i) = filled-at (m .at + m .width) n l ls (wrote m bs) (length-wrote m bs (omega (arith, f .1)) ∙ e) (f .2) i
+  filled-at from n l (m ∷ ls) bs e f (there i) = filled-at (m .slot .at + m .slot .width) n l ls (wrote m bs) (length-wrote m bs (omega (arith, f .1)) ∙ e) (f .2) i

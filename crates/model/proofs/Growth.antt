@@ -7,7 +7,7 @@ use lib.ListN.{length, length-append, length-replicate}
 use Rattle.lists.specs.Lists.{total}
 use Rattle.lists.proofs.Elements.{total-append}
 use Rattle.model.specs.Bag.{one, count}
-use Rattle.model.specs.Object.{Link, Object, noObject, sizeOf, linkCount, withBytes, withLink}
+use Rattle.model.specs.Object.{Link, Object, noObject, sizeOf, linkCount, withBytes, newLink, withLink}
 use Rattle.model.specs.Graph.{kidsOf}
 use Rattle.model.specs.Table.{FieldsIn}
 use Rattle.model.specs.Reading.{Reading, readingSize, fieldCount, readLinks, readingAt, readObject, readingsFrom, readings}
@@ -22,7 +22,7 @@ unfolding readLinks putOn
 put-links ρ [] b vs = refl
 put-links ρ (l ∷ ls) b vs = rw (put-links ρ ls b vs)
 
-field-links : (ρ : ℕ → Reading) (ls : List Link) (l : Link) (b : List ℕ) → readLinks ρ (ls ++ (l ∷ [])) b ≡ fieldOn (l .at) (l .width) (ρ (l .child)) (readLinks ρ ls b)
+field-links : (ρ : ℕ → Reading) (ls : List Link) (l : Link) (b : List ℕ) → readLinks ρ (ls ++ (l ∷ [])) b ≡ fieldOn (l .slot) (ρ (l .child)) (readLinks ρ ls b)
 unfolding readLinks fieldOn
 field-links ρ [] l b = refl
 field-links ρ (k ∷ ls) l b = rw (field-links ρ ls l b)
@@ -71,13 +71,14 @@ kids-snoc c (k ∷ ls) l = omega (arith, kids-snoc c ls l)
 pub fields-room : (from n m : ℕ) (ls : List Link) → n ≤ m → FieldsIn from n ls → FieldsIn from m ls
 unfolding FieldsIn
 fields-room from n m [] h f = tt
-fields-room from n m (l ∷ ls) h f = (f .0, omega (arith, f .1), fields-room (l .at + l .width) n m ls h (f .2))
+fields-room from n m (l ∷ ls) h f = (f .0, omega (arith, f .1), fields-room (l .slot .at + l .slot .width) n m ls h (f .2))
 
 -- a last field behind all the bytes
-fields-snoc : (from n w c : ℕ) (ls : List Link) → from ≤ n → FieldsIn from n ls → FieldsIn from (n + w) (ls ++ (record { at = n; width = w; child = c } ∷ []))
+fields-snoc : (from : ℕ) (ls : List Link) (m : Link) → from ≤ m .slot .at → FieldsIn from (m .slot .at) ls
+    → FieldsIn from (m .slot .at + m .slot .width) (ls ++ (m ∷ []))
 unfolding FieldsIn
-fields-snoc from n w c [] h f = (h, omega arith, tt)
-fields-snoc from n w c (l ∷ ls) h f = (f .0, omega (arith, f .1), fields-snoc (l .at + l .width) n w c ls (f .1) (f .2))
+fields-snoc from [] m h f = (h, omega arith, tt)
+fields-snoc from (l ∷ ls) m h f = (f .0, omega (arith, f .1), fields-snoc (l .slot .at + l .slot .width) ls m (f .1) (f .2))
 
 pub formed-none : (n : ℕ) → Formed n noObject
 unfolding kidsOf count FieldsIn
@@ -96,9 +97,9 @@ module _ {n : ℕ} {o : Object} (f : Formed n o) where
   pub formed-link : (w id : ℕ) → id < n → Formed n (withLink w id o)
   formed-link w id h = record {
     low = λ c k. go c k (sameOr c id);
-    inside = rw (length-append, length-replicate) (fields-snoc 0 (sizeOf o) w id (o .links) (omega arith) (f .inside));
+    inside = rw (length-append, length-replicate) (fields-snoc 0 (o .links) (newLink w id o) (omega arith) (f .inside));
   }
     where
       go : (c : ℕ) → 0 < count c (kidsOf (withLink w id o .links)) → Same c id → c < n
       go c k (same e _ _) = omega arith
-      go c k (other _ _ z) = f .low c (omega (arith, kids-snoc c (o .links) (record { at = sizeOf o; width = w; child = id })))
+      go c k (other _ _ z) = f .low c (omega (arith, kids-snoc c (o .links) (newLink w id o)))

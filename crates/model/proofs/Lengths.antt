@@ -82,7 +82,7 @@ different-apart (r ∷ l) = go (among r l) refl (different-apart l)
 pub below-below : (x y r : Reading) → Has y (below r) → Has x (below y) → Has x (below r)
 unfolding below
 below-below x y (bytes b) h k = absurd (List·Memᴰ·not-nil h)
-below-below x y (field a w c r) h k = go (below-below x y c) (below-below x y r) (List·Memᴰ·append-cases (c ∷ below c) h)
+below-below x y (field t c r) h k = go (below-below x y c) (below-below x y r) (List·Memᴰ·append-cases (c ∷ below c) h)
   where
     go : (Has y (below c) → Has x (below y) → Has x (below c)) → (Has y (below r) → Has x (below y) → Has x (below r)) → Has y (c ∷ below c) ⊎ Has y (below r) → Has x ((c ∷ below c) ++ below r)
     go i j (inr m) = Memᴰ·append-right (c ∷ below c) (j m k)
@@ -109,8 +109,8 @@ module _ (g : Graph) (content : ℕ → List ℕ) (ρ : ℕ → Reading) (sized 
       → (s : Reading) → Has s (below r) → (c : ℕ) × (0 < count c nodes) × (s ≡ ρ c)
   unfolding below readLinks kidsOf count Closed Reads
   below-object nodes cl (bytes x) ls b e k s h = absurd (List·Memᴰ·not-nil h)
-  below-object nodes cl (field a w c r) [] b e k s h = absurd (let z : _≡_ {A = ℕ} 0 1 = cc in omega arith)
-  below-object nodes cl (field a w c r) (l ∷ ls) b e k s h =
+  below-object nodes cl (field u c r) [] b e k s h = absurd (let z : _≡_ {A = ℕ} 0 1 = cc in omega arith)
+  below-object nodes cl (field u c r) (l ∷ ls) b e k s h =
       let ec : c ≡ ρ (l .child) = cc in
       let er : r ≡ readLinks ρ ls b = cc in
       let kx : 0 < count (l .child) nodes = k (l .child) (omega (arith, one-same (l .child))) in

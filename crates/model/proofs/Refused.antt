@@ -16,7 +16,7 @@ abbrev leaf : Object
 leaf = record { bytes = 0 ∷ 0 ∷ []; links = [] }
 
 abbrev toLeaf : Link
-toLeaf = record { at = 0; width = 2; child = 0 }
+toLeaf = record { slot = record { at = 0; width = 2 }; child = 0 }
 
 abbrev parent : Object
 parent = record { bytes = 0 ∷ 0 ∷ []; links = toLeaf ∷ [] }
@@ -31,7 +31,7 @@ abbrev table : List ℕ
 table = 0 ∷ 0 ∷ 0 ∷ 0 ∷ []
 
 -- the field leads to the parent itself
-itself : target table (placeOf g order 1) (toLeaf .at) (toLeaf .width) ≡ 0
+itself : target table (placeOf g order 1) (toLeaf .slot) ≡ 0
 unfolding before readFrom
 itself = refl
 

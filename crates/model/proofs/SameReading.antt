@@ -1,26 +1,34 @@
--- `sameReading` decides equality of readings.
+-- `sameSlot` decides equality of slots, and `sameReading` that of readings.
 use mathlib.Core.Path.{_≡_, refl, ap}
-use mathlib.Core.Bool.{true, _&&_}
+use mathlib.Core.Bool.{true}
 use lib.Dec.{eqb}
 use borrow.Author.Tests.{eq-eqb, eqb-true}
 use Rattle.lists.proofs.Same.{and-left, and-right, same-equal, same-self}
+use Rattle.model.specs.Object.{Slot, sameSlot}
 use Rattle.model.specs.Reading.{Reading, bytes, field, sameReading}
+
+slot-equal : (s t : Slot) → sameSlot s t ≡ true → s ≡ t
+slot-equal s t e =
+    let at : s .at ≡ t .at = eqb-true _ _ (and-left (eqb (s .at) (t .at)) _ e) in
+    let width : s .width ≡ t .width = eqb-true _ _ (and-right (eqb (s .at) (t .at)) _ e) in
+    λ i. record { at = at i; width = width i }
+
+slot-self : (s : Slot) → sameSlot s s ≡ true
+slot-self s = rw (eq-eqb (s .at) (s .at) refl, eq-eqb (s .width) (s .width) refl)
 
 pub reading-equal : (r s : Reading) → sameReading r s ≡ true → r ≡ s
 unfolding sameReading
 reading-equal (bytes a) (bytes b) e = ap bytes (same-equal eqb eqb-true a b e)
-reading-equal (bytes a) (field p k c r) e = cc
-reading-equal (field p k c r) (bytes b) e = cc
-reading-equal (field p k c r) (field q m d s) e =
-    let a = and-left (eqb p q && eqb k m) _ e in
-    let b = and-right (eqb p q && eqb k m) _ e in
-    let e1 : p ≡ q = eqb-true p q (and-left (eqb p q) _ a) in
-    let e2 : k ≡ m = eqb-true k m (and-right (eqb p q) _ a) in
-    let e3 : c ≡ d = reading-equal c d (and-left (sameReading c d) _ b) in
-    let e4 : r ≡ s = reading-equal r s (and-right (sameReading c d) _ b) in
+reading-equal (bytes a) (field s c r) e = cc
+reading-equal (field s c r) (bytes b) e = cc
+reading-equal (field s c r) (field u d q) e =
+    let b = and-right (sameSlot s u) _ e in
+    let e1 : s ≡ u = slot-equal s u (and-left (sameSlot s u) _ e) in
+    let e2 : c ≡ d = reading-equal c d (and-left (sameReading c d) _ b) in
+    let e3 : r ≡ q = reading-equal r q (and-right (sameReading c d) _ b) in
     cc
 
 pub reading-self : (r : Reading) → sameReading r r ≡ true
 unfolding sameReading
 reading-self (bytes a) = same-self eqb (λ x. eq-eqb x x refl) a
-reading-self (field p k c r) = rw (eq-eqb p p refl, eq-eqb k k refl, reading-self c, reading-self r)
+reading-self (field s c r) = rw (slot-self s, reading-self c, reading-self r)

@@ -82,24 +82,24 @@ right-nil : (a b : List Overflow) → a ++ b ≡ [] → b ≡ []
 right-nil [] b e = e
 right-nil (x ∷ a) b e = cc
 
-pub links-fit : (place : ℕ → ℕ) (p : ℕ) (ls : List Link) → unfitLinks place p ls ≡ [] → (l : Link) → In l ls → fits (l .width) (offset place p l) ≡ true
+pub links-fit : (place : ℕ → ℕ) (p : ℕ) (ls : List Link) → unfitLinks place p ls ≡ [] → (l : Link) → In l ls → fits (l .slot .width) (offset place p l) ≡ true
 unfolding unfitLinks
-links-fit place p (m ∷ ls) e l i = go (links-fit place p ls) (fits (m .width) (offset place p m)) refl e i
+links-fit place p (m ∷ ls) e l i = go (links-fit place p ls) (fits (m .slot .width) (offset place p m)) refl e i
   where
-    go : (unfitLinks place p ls ≡ [] → (l : Link) → In l ls → fits (l .width) (offset place p l) ≡ true) → (b : Bool) → fits (m .width) (offset place p m) ≡ b
-        → pick b (unfitLinks place p ls) (record { parent = record { 0 = p }; field = m .at; needed = offset place p m } ∷ unfitLinks place p ls) ≡ []
-        → In l (m ∷ ls) → fits (l .width) (offset place p l) ≡ true
+    go : (unfitLinks place p ls ≡ [] → (l : Link) → In l ls → fits (l .slot .width) (offset place p l) ≡ true) → (b : Bool) → fits (m .slot .width) (offset place p m) ≡ b
+        → pick b (unfitLinks place p ls) (record { parent = record { 0 = p }; field = m .slot .at; needed = offset place p m } ∷ unfitLinks place p ls) ≡ []
+        → In l (m ∷ ls) → fits (l .slot .width) (offset place p l) ≡ true
     go r true h f (here q) = rw q h
     go r true h f (there i) = r f l i
     go r false h f i = absurd (let z : _≡_ {A = ℕ} 0 1 = cc in omega arith)
 
 pub objects-fit : (g : Graph) (place : ℕ → ℕ) (o : List ℕ) (i : ℕ) → 0 < count i o → unfitFrom g place o ≡ []
-    → (l : Link) → In l (g .links i) → fits (l .width) (offset place i l) ≡ true
+    → (l : Link) → In l (g .links i) → fits (l .slot .width) (offset place i l) ≡ true
 unfolding unfitFrom count
 objects-fit g place [] i h e l k = absurd (omega arith)
 objects-fit g place (x ∷ o) i h e l k = go (λ c d. objects-fit g place o i c d l k) (sameOr i x)
   where
-    go : (0 < count i o → unfitFrom g place o ≡ [] → fits (l .width) (offset place i l) ≡ true) → Same i x → fits (l .width) (offset place i l) ≡ true
+    go : (0 < count i o → unfitFrom g place o ≡ [] → fits (l .slot .width) (offset place i l) ≡ true) → Same i x → fits (l .slot .width) (offset place i l) ≡ true
     go r (same f _ _) = rw f (links-fit place x (g .links x) (left-nil (unfitLinks place x (g .links x)) (unfitFrom g place o) e) l (rw f at k))
     go r (other _ _ z) = r (omega arith) (right-nil (unfitLinks place x (g .links x)) (unfitFrom g place o) e)
 
@@ -131,18 +131,18 @@ module _ (g : Graph) (content : ℕ → List ℕ) (o : List ℕ) (ρ : ℕ → R
 
   -- a field of object i holds its offset
   field-holds : (i : ℕ) → 0 < count i o → (l : Link) → In l (g .links i)
-      → readBig (part (placeOf g o i + l .at) (placeOf g o i + l .at + l .width) (tableOf g content o)) ≡ offset (placeOf g o) i l
+      → readBig (part (placeOf g o i + l .slot .at) (placeOf g o i + l .slot .at + l .slot .width) (tableOf g content o)) ≡ offset (placeOf g o) i l
   unfolding tableOf objectBytes Fields Sized lies
   field-holds i h l k =
       let a = lies i h in
       let b = objectBytes g content (placeOf g o) i in
       let r = field-room 0 (g .size i) l (g .links i) (fs i) k in
-      ap readBig (rw (a .whole) (mid-part (a .front) b (a .back) (placeOf g o i) (a .at) (l .at) (l .width) (omega (arith, object-length g content (placeOf g o) sized fs i)))
+      ap readBig (rw (a .whole) (mid-part (a .front) b (a .back) (placeOf g o i) (a .at) (l .slot .at) (l .slot .width) (omega (arith, object-length g content (placeOf g o) sized fs i)))
       ∙ filled-at (offset (placeOf g o) i) 0 (g .size i) l (g .links i) (content i) (sized i) (fs i) k)
-      ∙ big-read (l .width) (offset (placeOf g o) i l) (objects-fit g (placeOf g o) o i h fit l k)
+      ∙ big-read (l .slot .width) (offset (placeOf g o) i l) (objects-fit g (placeOf g o) o i h fit l k)
 
   -- and leads to the place of its child
-  leads : (i : ℕ) → 0 < count i o → (l : Link) → In l (g .links i) → target (tableOf g content o) (placeOf g o i) (l .at) (l .width) ≡ placeOf g o (l .child)
+  leads : (i : ℕ) → 0 < count i o → (l : Link) → In l (g .links i) → target (tableOf g content o) (placeOf g o i) (l .slot) ≡ placeOf g o (l .child)
   unfolding offset
   leads i h l k = rw (field-holds i h l k) (omega (arith, before-behind (g .size) g o first i (l .child) h (in-kids l (g .links i) k)))
 
@@ -166,17 +166,16 @@ module _ (g : Graph) (content : ℕ → List ℕ) (o : List ℕ) (ρ : ℕ → R
       → r ≡ readLinks ρ ls (content i) → FieldsShow (tableOf g content o) (placeOf g o i) r
   unfolding FieldsShow readLinks Fields Reads Closed
   fields-show (bytes b) i h ls k q = tt
-  fields-show (field a v c r) i h [] k q = absurd (let z : _≡_ {A = ℕ} 0 1 = cc in omega arith)
-  fields-show (field a v c r) i h (l ∷ ls) k q =
+  fields-show (field s c r) i h [] k q = absurd (let z : _≡_ {A = ℕ} 0 1 = cc in omega arith)
+  fields-show (field s c r) i h (l ∷ ls) k q =
       let x = l .child in
-      let ea : a ≡ l .at = cc in
-      let ev : v ≡ l .width = cc in
+      let es : s ≡ l .slot = cc in
       let ec : c ≡ ρ x = cc in
       let er : r ≡ readLinks ρ ls (content i) = cc in
       let kl = k l (here refl) in
       let hx : 0 < count x o = closed i x h (in-kids l (g .links i) kl) in
-      let tg : target (tableOf g content o) (placeOf g o i) a v ≡ placeOf g o x = rw (ea, ev) (leads i h l kl) in (
-        rw (ea, ev) (omega (arith, object-room i h, field-room 0 (g .size i) l (g .links i) (fs i) kl)),
+      let tg : target (tableOf g content o) (placeOf g o i) s ≡ placeOf g o x = rw es (leads i h l kl) in (
+        rw es (omega (arith, object-room i h, field-room 0 (g .size i) l (g .links i) (fs i) kl)),
         rw (tg, ec) (own x hx),
         rw tg (fields-show c x hx (g .links x) (λ m j. j) (ec ∙ reads x)),
         fields-show r i h ls (λ m j. k m (there j)) er,

@@ -10,7 +10,7 @@ use borrow.Author.Tests.{eq-eqb, ne-eqb, eqb-true}
 use Rattle.lists.specs.Lists.{sameList, firstThat}
 use Rattle.lists.proofs.Elements.{at-snoc, first-none, first-same}
 use Rattle.model.specs.Bag.{count}
-use Rattle.model.specs.Object.{Link, Object, noObject, objectAt, sameLink, sameObject}
+use Rattle.model.specs.Object.{Link, Object, noObject, objectAt, sameSlot, sameLink, sameObject}
 use Rattle.model.specs.Graph.{graphOf, kidsOf, Ranked, Acyclic}
 use Rattle.model.specs.Reading.{Reading, bytes, sameReading, readLinks, readingAt, readObject, Reads, readings}
 use Rattle.model.proofs.Bags.{one-same}
@@ -28,12 +28,11 @@ reading-other r s e = go (sameReading s r) refl
     go true f = let q : s ≡ r = reading-equal s r f in sym (reading-self r) ∙ ap (sameReading r) (sym q) ∙ e
     go false f = refl
 
--- a link's three tests, the bytes' and the other links', in either order
-and-sort : (x y z b l : Bool) → ((x && y) && (z && (b && l))) ≡ (b && ((x && (y && z)) && l))
-and-sort true true true b l = refl
-and-sort true true false b l = sym (and-false b)
-and-sort true false z b l = sym (and-false b)
-and-sort false y z b l = sym (and-false b)
+-- a link's two tests, the bytes' and the other links', in either order
+and-sort : (s c b l : Bool) → (s && (c && (b && l))) ≡ (b && ((s && c) && l))
+and-sort true true b l = refl
+and-sort true false b l = sym (and-false b)
+and-sort false c b l = sym (and-false b)
 
 module _ (rs : List Reading) (d : Distinct rs) where
   same-links : (ls ms : List Link) (a b : List ℕ) → ((c : ℕ) → 0 < count c (kidsOf ls) → c < length rs) → ((c : ℕ) → 0 < count c (kidsOf ms) → c < length rs)
@@ -45,7 +44,7 @@ module _ (rs : List Reading) (d : Distinct rs) where
   same-links (l ∷ ls) (m ∷ ms) a b h k =
       let e = d (l .child) (m .child) (h (l .child) (omega (arith, one-same (l .child)))) (k (m .child) (omega (arith, one-same (m .child)))) in
       let f = same-links ls ms a b (λ c i. h c (omega arith)) (λ c i. k c (omega arith)) in
-      rw (e, f) (and-sort (eqb (l .at) (m .at)) (eqb (l .width) (m .width)) (eqb (l .child) (m .child)) (sameList eqb a b) (sameList sameLink ls ms))
+      rw (e, f) (and-sort (sameSlot (l .slot) (m .slot)) (eqb (l .child) (m .child)) (sameList eqb a b) (sameList sameLink ls ms))
 
   pub same-twin : (o p : Object) → ((c : ℕ) → 0 < count c (kidsOf (o .links)) → c < length rs) → ((c : ℕ) → 0 < count c (kidsOf (p .links)) → c < length rs)
       → sameReading (readObject rs o) (readObject rs p) ≡ sameObject o p

@@ -10,7 +10,7 @@ use Rattle.model.specs.Graph.{Graph, reached}
 use Rattle.model.specs.Order.{orderBy}
 
 abbrev pub weight : Graph → Link → ℕ
-weight g l = g .size (l .child) + capacity (l .width)
+weight g l = g .size (l .child) + capacity (l .slot .width)
 
 -- ---- paths
 

@@ -8,6 +8,7 @@ use lib.Dec.{leb, ltb}
 use Rattle.lists.specs.Lists.{pick, total, firstThat}
 use Rattle.answer.specs.Number.{noTally}
 use Rattle.answer.specs.declared.tally.Tally.{Tally}
+use Rattle.model.specs.Object.{Slot}
 use Rattle.model.specs.Reading.{Reading, bytes, field, readingSize, fieldCount, readingAt, readObject, readings, sameReading, Shows, below, different}
 use Rattle.model.specs.Judge.{Limits, Verdict, accepted, refused, judgeStart, judgeOpen, judgePut, judgeLink, judgeClose, judgeDrop, judgeTally}
 use Rattle.model.specs.Told.{Told, doneClose, refusal}
@@ -41,16 +42,16 @@ counts h =
 
 unfoldable pub putOn : List ℕ → Reading → Reading
 putOn vs (bytes b) = bytes (b ++ vs)
-putOn vs (field a w c r) = field a w c (putOn vs r)
+putOn vs (field s c r) = field s c (putOn vs r)
 
--- a last field at `at`, with its child's reading
-unfoldable pub fieldOn : ℕ → ℕ → Reading → Reading → Reading
-fieldOn at w child (bytes b) = field at w child (bytes b)
-fieldOn at w child (field a v c r) = field a v c (fieldOn at w child r)
+-- a last field, with its child's reading
+unfoldable pub fieldOn : Slot → Reading → Reading → Reading
+fieldOn s child (bytes b) = field s child (bytes b)
+fieldOn s child (field u c r) = field u c (fieldOn s child r)
 
 -- a field appended, zero bytes of its width
 abbrev pub linkOn : ℕ → Reading → Reading → Reading
-linkOn w child r = putOn (replicate w 0) (fieldOn (readingSize r) w child r)
+linkOn w child r = putOn (replicate w 0) (fieldOn (record { at = readingSize r; width = w }) child r)
 
 -- ---- what the accepted calls change
 

@@ -22,4 +22,4 @@ pub record LaidOut (g : Graph) (nodes : List ℕ) (root : ℕ) (ρ : ℕ → Rea
   -- each child lies behind its parent's end
   pub behind : (p c : ℕ) → 0 < count p nodes → 0 < count c (kids g p) → placeOf g o p + g .size p ≤ placeOf g o c
   -- each field leads to the very place of its child
-  pub leads : (p : ℕ) (l : Link) → 0 < count p nodes → In l (g .links p) → target t (placeOf g o p) (l .at) (l .width) ≡ placeOf g o (l .child)
+  pub leads : (p : ℕ) (l : Link) → 0 < count p nodes → In l (g .links p) → target t (placeOf g o p) (l .slot) ≡ placeOf g o (l .child)

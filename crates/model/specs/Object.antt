@@ -6,10 +6,14 @@ use lib.ListN.{length, getD, replicate}
 use lib.Dec.{eqb, leb}
 use Rattle.lists.specs.Lists.{sameList}
 
--- the field's place in its object, its width in bytes, and the child's id
-pub record Link : Type 0 where
+-- a field: its place in its object, and its width in bytes
+pub record Slot : Type 0 where
   pub at : ℕ
   pub width : ℕ
+
+-- a field and the child's id
+pub record Link : Type 0 where
+  pub slot : Slot
   pub child : ℕ
 
 pub record Object : Type 0 where
@@ -44,14 +48,20 @@ widthOk w = leb narrowest w && leb w widest
 abbrev pub withBytes : List ℕ → Object → Object
 withBytes vs o = record { bytes = o .bytes ++ vs; links = o .links }
 
+-- a link to c whose field stands behind the bytes
+abbrev pub newLink : ℕ → ℕ → Object → Link
+newLink w c o = record { slot = record { at = length (o .bytes); width = w }; child = c }
+
 -- a link appended, and with it its own field of zero bytes
 abbrev pub withLink : ℕ → ℕ → Object → Object
-withLink w c o =
-    record { bytes = o .bytes ++ replicate w 0; links = o .links ++ (record { at = length (o .bytes); width = w; child = c } ∷ []) }
+withLink w c o = record { bytes = o .bytes ++ replicate w 0; links = o .links ++ (newLink w c o ∷ []) }
 
 -- the comparison at closing: the same bytes and the same links, children by id
+abbrev pub sameSlot : Slot → Slot → Bool
+sameSlot s t = eqb (s .at) (t .at) && eqb (s .width) (t .width)
+
 abbrev pub sameLink : Link → Link → Bool
-sameLink l m = eqb (l .at) (m .at) && (eqb (l .width) (m .width) && eqb (l .child) (m .child))
+sameLink l m = sameSlot (l .slot) (m .slot) && eqb (l .child) (m .child)
 
 abbrev pub sameObject : Object → Object → Bool
 sameObject o p = sameList eqb (o .bytes) (p .bytes) && sameList sameLink (o .links) (p .links)

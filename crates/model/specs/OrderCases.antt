@@ -35,7 +35,7 @@ allRight [] = true
 allRight (c ∷ cs) = right c && allRight cs
 
 abbrev to : ℕ → ℕ → ℕ → Link
-to at width child = record { at = at; width = width; child = child }
+to at width child = record { slot = record { at = at; width = width }; child = child }
 
 abbrev pub cases : List Case
 cases =

@@ -8,17 +8,17 @@ use lib.ListN.{length, getD}
 use lib.Dec.{eqb}
 use Rattle.lists.specs.Lists.{pick, part, sameList}
 use Rattle.big_endian.specs.BigEndian.{readBig}
-use Rattle.model.specs.Object.{Link, Object}
+use Rattle.model.specs.Object.{Slot, Link, Object, sameSlot}
 use Rattle.model.specs.Graph.{Graph}
 
--- an object's fields in order, each its place, its width and its child's reading; and last the object's bytes
+-- an object's fields in order, each its slot and its child's reading; and last the object's bytes
 pub data Reading : Type 0 where
   bytes : List ℕ → Reading
-  field : ℕ → ℕ → Reading → Reading → Reading
+  field : Slot → Reading → Reading → Reading
 
 unfoldable pub bytesOf : Reading → List ℕ
 bytesOf (bytes b) = b
-bytesOf (field a w c r) = bytesOf r
+bytesOf (field s c r) = bytesOf r
 
 -- its own bytes, fields included, and none of a child's
 abbrev pub readingSize : Reading → ℕ
@@ -26,20 +26,20 @@ readingSize r = length (bytesOf r)
 
 unfoldable pub fieldCount : Reading → ℕ
 fieldCount (bytes b) = 0
-fieldCount (field a w c r) = 1 + fieldCount r
+fieldCount (field s c r) = 1 + fieldCount r
 
 unfoldable pub sameReading : Reading → Reading → Bool
 sameReading (bytes a) (bytes b) = sameList eqb a b
-sameReading (bytes a) (field p k c r) = false
-sameReading (field p k c r) (bytes b) = false
-sameReading (field p k c r) (field q m d s) = (eqb p q && eqb k m) && (sameReading c d && sameReading r s)
+sameReading (bytes a) (field s c r) = false
+sameReading (field s c r) (bytes b) = false
+sameReading (field s c r) (field u d q) = sameSlot s u && (sameReading c d && sameReading r q)
 
 -- ---- the readings of objects
 
 -- links over bytes, given the readings by id
 unfoldable pub readLinks : (ℕ → Reading) → List Link → List ℕ → Reading
 readLinks ρ [] b = bytes b
-readLinks ρ (l ∷ ls) b = field (l .at) (l .width) (ρ (l .child)) (readLinks ρ ls b)
+readLinks ρ (l ∷ ls) b = field (l .slot) (ρ (l .child)) (readLinks ρ ls b)
 
 abbrev pub readingAt : List Reading → ℕ → Reading
 readingAt rs i = getD rs i (bytes [])
@@ -65,21 +65,21 @@ Reads g content ρ = (i : ℕ) → ρ i ≡ readLinks ρ (g .links i) (content i
 -- place k of an object is in none of its fields
 unfoldable pub Outside : ℕ → Reading → Type 0
 Outside k (bytes b) = Unit {0}
-Outside k (field a w c r) = ((k < a) ⊎ (a + w ≤ k)) × Outside k r
+Outside k (field s c r) = ((k < s .at) ⊎ (s .at + s .width ≤ k)) × Outside k r
 
 -- an object's own bytes lie in the table from place p on, and agree outside its fields
 pub record Own (t : List ℕ) (p : ℕ) (r : Reading) : Type 0 where
   pub room : p + readingSize r ≤ length t
   pub agree : (k : ℕ) → k < readingSize r → Outside k r → getD t (p + k) 0 ≡ getD (bytesOf r) k 0
 
--- where the field at a of the object at p leads
-abbrev pub target : List ℕ → ℕ → ℕ → ℕ → ℕ
-target t p a w = p + readBig (part (p + a) (p + a + w) t)
+-- where a field of the object at p leads
+abbrev pub target : List ℕ → ℕ → Slot → ℕ
+target t p s = p + readBig (part (p + s .at) (p + s .at + s .width) t)
 
 -- every field of the object at p lies in the table and leads to what shows its child
 unfoldable pub FieldsShow : List ℕ → ℕ → Reading → Type 0
 FieldsShow t p (bytes b) = Unit {0}
-FieldsShow t p (field a w c r) = (p + a + w ≤ length t) × Own t (target t p a w) c × FieldsShow t (target t p a w) c × FieldsShow t p r
+FieldsShow t p (field s c r) = (p + s .at + s .width ≤ length t) × Own t (target t p s) c × FieldsShow t (target t p s) c × FieldsShow t p r
 
 abbrev pub Shows : List ℕ → ℕ → Reading → Type 0
 Shows t p r = Own t p r × FieldsShow t p r
@@ -88,7 +88,7 @@ Shows t p r = Own t p r × FieldsShow t p r
 
 unfoldable pub below : Reading → List Reading
 below (bytes b) = []
-below (field a w c r) = (c ∷ below c) ++ below r
+below (field s c r) = (c ∷ below c) ++ below r
 
 unfoldable pub among : Reading → List Reading → Bool
 among r [] = false

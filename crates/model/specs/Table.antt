@@ -29,8 +29,8 @@ offset place p l = place (l .child) - place p
 unfoldable pub unfitLinks : (ℕ → ℕ) → ℕ → List Link → List Overflow
 unfitLinks place p [] = []
 unfitLinks place p (l ∷ ls) =
-    pick (fits (l .width) (offset place p l)) (unfitLinks place p ls)
-    (record { parent = record { 0 = p }; field = l .at; needed = offset place p l } ∷ unfitLinks place p ls)
+    pick (fits (l .slot .width) (offset place p l)) (unfitLinks place p ls)
+    (record { parent = record { 0 = p }; field = l .slot .at; needed = offset place p l } ∷ unfitLinks place p ls)
 
 unfoldable pub unfitFrom : Graph → (ℕ → ℕ) → List ℕ → List Overflow
 unfitFrom g place [] = []
@@ -89,7 +89,7 @@ tableLength g root = total (g .size) (reached g root)
 -- bytes with the fields filled
 unfoldable pub filled : (Link → ℕ) → List Link → List ℕ → List ℕ
 filled off [] bs = bs
-filled off (l ∷ ls) bs = filled off ls (over (l .at) (bigEndian (l .width) (off l)) bs)
+filled off (l ∷ ls) bs = filled off ls (over (l .slot .at) (bigEndian (l .slot .width) (off l)) bs)
 
 -- `content` gives each object's bytes
 unfoldable pub objectBytes : Graph → (ℕ → List ℕ) → (ℕ → ℕ) → ℕ → List ℕ
@@ -107,7 +107,7 @@ tableOf g content o = tableFrom g content (placeOf g o) o
 -- fields in rising order, apart, from `from` on, inside n bytes
 unfoldable pub FieldsIn : ℕ → ℕ → List Link → Type 0
 FieldsIn from n [] = Unit {0}
-FieldsIn from n (l ∷ ls) = (from ≤ l .at) × (l .at + l .width ≤ n) × FieldsIn (l .at + l .width) n ls
+FieldsIn from n (l ∷ ls) = (from ≤ l .slot .at) × (l .slot .at + l .slot .width ≤ n) × FieldsIn (l .slot .at + l .slot .width) n ls
 
 unfoldable pub Fields : Graph → Type 0
 Fields g = (i : ℕ) → FieldsIn 0 (g .size i) (g .links i)

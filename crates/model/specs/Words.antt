@@ -8,14 +8,18 @@ abbrev pub linkWords : ℕ
 linkWords = 3
 
 abbrev pub wordsOf : Link → List ℕ
-wordsOf l = l .at ∷ l .width ∷ l .child ∷ []
+wordsOf l = l .slot .at ∷ l .slot .width ∷ l .child ∷ []
+
+-- a link by its words
+abbrev pub linkOfWords : ℕ → ℕ → ℕ → Link
+linkOfWords a k c = record { slot = record { at = a; width = k }; child = c }
 
 unfoldable pub linksOf : List ℕ → List Link
 linksOf [] = []
 linksOf (a ∷ []) = []
 linksOf (a ∷ k ∷ []) = []
-linksOf (a ∷ k ∷ c ∷ ws) = record { at = a; width = k; child = c } ∷ linksOf ws
+linksOf (a ∷ k ∷ c ∷ ws) = linkOfWords a k c ∷ linksOf ws
 
 -- the link whose words begin at index i
 abbrev pub linkAt : List ℕ → ℕ → Link
-linkAt ws i = record { at = getD ws i 0; width = getD ws (i + 1) 0; child = getD ws (i + 2) 0 }
+linkAt ws i = linkOfWords (getD ws i 0) (getD ws (i + 1) 0) (getD ws (i + 2) 0)

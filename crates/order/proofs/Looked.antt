@@ -27,13 +27,13 @@ module _ (ps : List ℕ) (place : ℕ → ℕ) (o : List ℕ) (agree : (i : ℕ)
   look-links : (x : ℕ) → 0 < count x o → (ls : List Link) → ((c : ℕ) → 0 < count c (kidsOf ls) → 0 < count c o) → lookLinks ps x ls ≡ lookOf (unfitLinks place x ls)
   unfolding lookLinks unfitLinks kidsOf count
   look-links x h [] k = refl
-  look-links x h (l ∷ ls) k = rw needed (go (fits (l .width) (offset place x l)) (look-links x h ls (λ c m. k c (omega arith))))
+  look-links x h (l ∷ ls) k = rw needed (go (fits (l .slot .width) (offset place x l)) (look-links x h ls (λ c m. k c (omega arith))))
     where
       needed : offsetBy ps x l ≡ offset place x l
       needed = unfold offset in rw (agree x h, agree (l .child) (k (l .child) (omega (arith, one-same (l .child)))))
 
       over : Overflow
-      over = record { parent = record { 0 = x }; field = l .at; needed = offset place x l }
+      over = record { parent = record { 0 = x }; field = l .slot .at; needed = offset place x l }
 
       go : (b : Bool) → lookLinks ps x ls ≡ lookOf (unfitLinks place x ls) → pick b (lookLinks ps x ls) (Over over) ≡ lookOf (pick b (unfitLinks place x ls) (over ∷ unfitLinks place x ls))
       go true e = e

@@ -9,13 +9,14 @@ use Rattle.lists.proofs.Runs.{drop-first}
 use Rattle.regions.proofs.Laws.{region-at}
 use Rattle.answer.specs.declared.Overflow.{Overflow}
 use Rattle.big_endian.specs.BigEndian.{capacity}
+use Rattle.model.specs.Object.{Link}
 use Rattle.model.specs.Table.{offset}
 use Rattle.work.specs.declared.Areas.{Areas}
 use Rattle.work.specs.Views.{orderIn, placesIn}
-use Rattle.order_graph.specs.Graph.{graphOn, linkOf, linksAfter, linkCount, objectOf, AtNode, FieldOf}
+use Rattle.order_graph.specs.Graph.{graphOn, linksAfter, linkCount, objectOf, linkBy, AtNode, FieldOf}
 use Rattle.order_graph.specs.declared.Field.{Field}
-use Rattle.order_graph.proofs.Links.{links-in, links-next, links-none}
-use Rattle.order_fit.specs.Fit.{orElse, offsetBy, linkBy, lookLinks, look, Placing}
+use Rattle.order_graph.proofs.Links.{links-in, links-read, links-none}
+use Rattle.order_fit.specs.Fit.{orElse, offsetBy, lookLinks, look, Placing}
 use Rattle.order_fit.specs.declared.Look.{Look}
 use Rattle.order_fit.specs.declared.Look.the-variants.{Fits, Over}
 use Rattle.order_fit.proofs.Summing.{order-long}
@@ -43,24 +44,19 @@ module _ {a : Areas} {n i : ℕ} {w : List ℕ} (m : AtNode a n i w) where
   looking-none = record { some = omega arith; left = rw (links-in a n front i (m .inside)) }
 
   module _ {t : ℕ} (s : Looking a n i t w) where
-    module _ {f : Field} {needed room : ℕ} (h : t < linkCount a front i) (r : FieldOf a n front i t (f .at) (f .width) (f .child))
-        (e : needed ≡ offsetBy places i (linkBy f)) (q : room ≡ capacity (f .width)) where
-      needed-is : needed ≡ offsetBy places i (linkOf a front i t)
-      unfolding offset
-      needed-is = e ∙ rw (r .child-is)
-
+    module _ {l : Link} {needed room : ℕ} (h : t < linkCount a front i) (r : FieldOf a n front i t l)
+        (e : needed ≡ offsetBy places i l) (q : room ≡ capacity (l .slot .width)) where
       pub looking-next : needed < room → Looking a n i (t + 1) w
       unfolding lookLinks
       looking-next k =
           record {
             some = omega arith;
-            left = s .left ∙ rw (links-next a front i t h, lookLinks, ← needed-is, ← r .width-is, ← q, lt-ltb needed room k);
+            left = s .left ∙ rw (links-read r h, lookLinks, ← e, ← q, lt-ltb needed room k);
           }
 
-      pub looking-stop : room ≤ needed → lookLinks places i (graphOn a n w .links i) ≡ Over (record { parent = objectOf i; field = f .at; needed = needed })
+      pub looking-stop : room ≤ needed → lookLinks places i (graphOn a n w .links i) ≡ Over (record { parent = objectOf i; field = l .slot .at; needed = needed })
       unfolding lookLinks
-      looking-stop k =
-          s .left ∙ rw (links-next a front i t h, lookLinks, ← needed-is, ← r .width-is, ← r .at-is, ← q, le-ltb needed room k)
+      looking-stop k = s .left ∙ rw (links-read r h, lookLinks, ← e, ← q, le-ltb needed room k)
 
     pub looking-all : linkCount a front i ≤ t → lookLinks places i (graphOn a n w .links i) ≡ Fits
     unfolding lookLinks

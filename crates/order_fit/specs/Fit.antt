@@ -11,7 +11,6 @@ use Rattle.model.specs.Graph.{Graph}
 use Rattle.model.specs.Table.{offset}
 use Rattle.work.specs.declared.Areas.{Areas}
 use Rattle.order_graph.specs.Graph.{Stands, graphOn, objectOf}
-use Rattle.order_graph.specs.declared.Field.{Field}
 use Rattle.work.specs.Views.{orderIn, placesIn}
 use Rattle.order_place.specs.Run.{OrderIds}
 use Rattle.order_fit.specs.declared.Look.{Look}
@@ -38,14 +37,10 @@ orElse (Over u) b = Over u
 abbrev pub offsetBy : List ℕ → ℕ → Link → ℕ
 offsetBy ps x l = offset (λ i. getD ps i 0) x l
 
--- the link that a field of node x was read as
-abbrev pub linkBy : Field → Link
-linkBy f = record { at = f .at; width = f .width; child = f .child }
-
 unfoldable pub lookLinks : List ℕ → ℕ → List Link → Look
 lookLinks ps x [] = Fits
 lookLinks ps x (l ∷ ls) =
-    pick (fits (l .width) (offsetBy ps x l)) (lookLinks ps x ls) (Over (record { parent = objectOf x; field = l .at; needed = offsetBy ps x l }))
+    pick (fits (l .slot .width) (offsetBy ps x l)) (lookLinks ps x ls) (Over (record { parent = objectOf x; field = l .slot .at; needed = offsetBy ps x l }))
 
 unfoldable pub look : Graph → List ℕ → List ℕ → Look
 look g ps [] = Fits

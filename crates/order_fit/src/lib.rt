@@ -9,9 +9,9 @@ use work::Areas;
 ghost use mathlib.Core.Path.{_≡_};
 ghost use Prim.Native.Nat.{_-_, _<_};
 ghost use lib.ListN.{getD};
-ghost use Rattle.order_graph.specs.Graph.{AtNode, graphOn};
+ghost use Rattle.order_graph.specs.Graph.{AtNode, graphOn, linkBy};
 ghost use Rattle.work.specs.Views.{orderIn, placesIn};
-ghost use Rattle.order_fit.specs.Fit.{Placing, PlacedAt, offsetBy, linkBy, lookLinks, look};
+ghost use Rattle.order_fit.specs.Fit.{Placing, PlacedAt, offsetBy, lookLinks, look};
 
 pub enum Look {
     Fits,

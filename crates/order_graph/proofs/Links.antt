@@ -1,5 +1,5 @@
 -- The words of a node's links, read from the whole memory; and a node's links one by one.
-use mathlib.Core.Path.{_≡_, sym}
+use mathlib.Core.Path.{_≡_, refl, sym, ap, subst, _∙_}
 use Prim.Native.Nat.{ℕ, suc, _+_, _-_, _*_, _≤_, _<_}
 use mathlib.Core.List.{List, [], _∷_}
 use native.Mathlib.Omega.{arith}
@@ -8,9 +8,10 @@ use lib.Seq.{getD-take}
 use borrow.Author.Tests.{lt-ltb}
 use Rattle.big_endian.specs.BigEndian.{capacity}
 use Rattle.big_endian.proofs.Laws.{capacity-rises}
-use Rattle.model.specs.Object.{widest}
+use Rattle.model.specs.Object.{Link, widest}
 use Rattle.model.proofs.Widths.{width-most}
-use Rattle.model.specs.Words.{linkWords}
+use Rattle.model.specs.Words.{linkWords, linkAt}
+use Rattle.model.specs.Distance.{weight}
 use Rattle.regions.specs.Region.{Kept}
 use Rattle.regions.proofs.Frame.{kept-less}
 use Rattle.work.specs.declared.Areas.{Areas}
@@ -23,38 +24,32 @@ module _ {a : Areas} {n i t : ℕ} {w : List ℕ} (s : AtLink a n i t w) where
   abbrev g : ℕ
   g = a .keys
 
-  -- where the three words of a link begin, and that they lie in front
+  -- where the words of a link begin, and that they lie in front
   pub words-are : a .links + getD w (a .firsts + i) 0 * linkWords + t * linkWords ≡ linksAt a (take g w) i + t * linkWords
   words-are = rw (getD-take g w (a .firsts + i) 0 (omega arith))
 
-  pub words-in : a .links + getD w (a .firsts + i) 0 * linkWords + t * linkWords + 2 < g
+  pub words-in : a .links + getD w (a .firsts + i) 0 * linkWords + t * linkWords + linkWords ≤ g
   words-in = omega (arith, words-are, s .node .graph .tidy .node i (s .node .inside) .within)
 
-  pub words-read : (j : ℕ) → j ≡ linksAt a (take g w) i + t * linkWords → FieldOf a n (take g w) i t (getD w j 0) (getD w (j + 1) 0) (getD w (j + 2) 0)
+  pub words-read : (j : ℕ) → j ≡ linksAt a (take g w) i + t * linkWords → FieldOf a n (take g w) i t (linkAt w j)
   words-read j e =
-      let b : j + 2 < g = omega (arith, words-in, words-are) in
+      let b : j + linkWords ≤ g = omega (arith, words-in, words-are) in
+      let is : linkOf a (take g w) i t ≡ linkAt w j = rw (← e, getD-take g w j 0 (omega arith), getD-take g w (j + 1) 0 (omega arith), getD-take g w (j + 2) 0 (omega arith)) in
       let o = s .node .graph .tidy .node i (s .node .inside) in
-      let width-is : getD w (j + 1) 0 ≡ linkOf a (take g w) i t .width = rw e (sym (getD-take g w _ 0 (omega arith))) in
-      let child-is : getD w (j + 2) 0 ≡ linkOf a (take g w) i t .child = rw e (sym (getD-take g w _ 0 (omega arith))) in
-      record {
-        at-is = rw e (sym (getD-take g w _ 0 (omega arith)));
-        width-is = width-is;
-        child-is = child-is;
-        narrow = omega (arith, width-most (linkOf a (take g w) i t .width) (o .wide t (s .some)));
-        known = omega (arith, o .known t (s .some));
-      }
+      subst (FieldOf a n (take g w) i t) is (record { is = refl; narrow = width-most _ (o .wide t (s .some)); known = o .known t (s .some) })
 
   -- a child and its link's weight
-  pub edge-read : {at width child room : ℕ} → FieldOf a n (take g w) i t at width child → room ≡ capacity width → EdgeOf a n (take g w) i t child (getD w child 0 + room)
-  edge-read {width = width} {child = child} f e =
+  pub edge-read : {l : Link} {room : ℕ} → FieldOf a n (take g w) i t l → room ≡ capacity (l .slot .width) → EdgeOf a n (take g w) i t (l .child) (getD w (l .child) 0 + room)
+  edge-read {l} {room} f e =
       let d = s .node .graph .tidy in
-      let b : child < n = omega arith in
-      let size : getD (take g w) child 0 ≡ getD w child 0 = getD-take g w child 0 (omega arith) in
+      let b : l .child < n = f .known in
+      let size : getD (take g w) (l .child) 0 ≡ getD w (l .child) 0 = getD-take g w (l .child) 0 (omega arith) in
+      let weighs : getD w (l .child) 0 + room ≡ weight (graphIn a n (take g w)) l = rw (lt-ltb (l .child) n b, size, e) in
       record {
-        child-is = f .child-is;
-        known = f .known;
-        weight-is = rw (← f .child-is, ← f .width-is, lt-ltb child n b, size, e);
-        light = omega (arith, d .light child b, capacity-rises width widest (f .narrow));
+        child-is = ap (λ (k : Link). k .child) (f .is);
+        known = b;
+        weight-is = weighs ∙ ap (weight (graphIn a n (take g w))) (f .is);
+        light = omega (arith, d .light (l .child) b, capacity-rises (l .slot .width) widest (f .narrow));
       }
 
 -- the graph stands, and is the same, while nothing in front changes
@@ -82,6 +77,10 @@ links-next a f i t h =
     let e : linkCount a f i - t ≡ suc (linkCount a f i - (t + 1)) = omega arith in
     let z : linksAt a f i + t * linkWords + linkWords ≡ linksAt a f i + (t + 1) * linkWords = omega arith in
     rw (e, linksFrom, z)
+
+-- the links from one on that was read
+pub links-read : {a : Areas} {n : ℕ} {f : List ℕ} {i t : ℕ} {l : Link} → FieldOf a n f i t l → t < linkCount a f i → linksAfter a f i t ≡ l ∷ linksAfter a f i (t + 1)
+links-read {a} {n} {f} {i} {t} r h = links-next a f i t h ∙ ap (λ (k : Link). k ∷ linksAfter a f i (t + 1)) (sym (r .is))
 
 pub links-none : (a : Areas) (f : List ℕ) (i t : ℕ) → linkCount a f i ≤ t → linksAfter a f i t ≡ []
 unfolding linksFrom

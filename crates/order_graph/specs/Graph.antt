@@ -8,11 +8,12 @@ use lib.Dec.{ltb}
 use Rattle.lists.specs.Lists.{pick}
 use Rattle.answer.specs.declared.ObjectId.{ObjectId}
 use Rattle.model.specs.Object.{Link, widest, widthOk}
-use Rattle.model.specs.Words.{linkWords, linkAt}
+use Rattle.model.specs.Words.{linkWords, linkOfWords, linkAt}
 use Rattle.model.specs.Graph.{Graph}
 use Rattle.model.specs.Distance.{weight}
 use Rattle.work.specs.Areas.{Apart}
 use Rattle.work.specs.declared.Areas.{Areas}
+use Rattle.order_graph.specs.declared.Field.{Field}
 
 -- the links whose words begin at index j, k of them
 unfoldable pub linksFrom : List ℕ → ℕ → ℕ → List Link
@@ -67,7 +68,7 @@ mostWeight = 8589934592
 pub record TidyNode (a : Areas) (n : ℕ) (f : List ℕ) (i : ℕ) : Type 0 where
   pub few : linkCount a f i ≤ mostNodeLinks
   pub within : linksAt a f i + linkCount a f i * linkWords ≤ a .keys
-  pub wide : (t : ℕ) → t < linkCount a f i → widthOk (linkOf a f i t .width) ≡ true
+  pub wide : (t : ℕ) → t < linkCount a f i → widthOk (linkOf a f i t .slot .width) ≡ true
   pub known : (t : ℕ) → t < linkCount a f i → linkOf a f i t .child < n
 
 -- n nodes, with room for them
@@ -93,13 +94,15 @@ pub record AtLink (a : Areas) (n i t : ℕ) (w : List ℕ) : Type 0 where
   pub node : AtNode a n i w
   pub some : t < linkCount a (take (a .keys) w) i
 
--- link t of node i, as read
-pub record FieldOf (a : Areas) (n : ℕ) (f : List ℕ) (i t at width child : ℕ) : Type 0 where
-  pub at-is : at ≡ linkOf a f i t .at
-  pub width-is : width ≡ linkOf a f i t .width
-  pub child-is : child ≡ linkOf a f i t .child
-  pub narrow : width ≤ widest
-  pub known : child < n
+-- the link that a field was read as
+abbrev pub linkBy : Field → Link
+linkBy f = linkOfWords (f .at) (f .width) (f .child)
+
+-- l is link t of node i
+pub record FieldOf (a : Areas) (n : ℕ) (f : List ℕ) (i t : ℕ) (l : Link) : Type 0 where
+  pub is : l ≡ linkOf a f i t
+  pub narrow : l .slot .width ≤ widest
+  pub known : l .child < n
 
 -- its child and its weight
 pub record EdgeOf (a : Areas) (n : ℕ) (f : List ℕ) (i t child weigh : ℕ) : Type 0 where

@@ -4,10 +4,10 @@ use big_endian::capacity;
 use model::LINK_WORDS;
 use work::Areas;
 ghost use mathlib.Core.Path.{_≡_};
-ghost use Prim.Native.Nat.{_+_, _*_, _<_};
+ghost use Prim.Native.Nat.{_+_, _*_, _≤_, _<_};
 ghost use lib.ListN.{take};
 ghost use Rattle.model.specs.Words.{linkWords};
-ghost use Rattle.order_graph.specs.Graph.{AtNode, AtLink, FieldOf, EdgeOf, linksAt, linkCount, objectOf, mostNodes};
+ghost use Rattle.order_graph.specs.Graph.{AtNode, AtLink, FieldOf, EdgeOf, linkBy, linksAt, linkCount, objectOf, mostNodes};
 
 // A link: its field's place and width, and the child.
 pub struct Field {
@@ -42,7 +42,7 @@ pub fn link_count(work: &[u64], a: Areas, n: usize, i: usize) -> usize
 // Where the words of link t of node i begin.
 fn words_at(work: &[u64], a: Areas, n: usize, i: usize, t: usize) -> usize
     requires { ⌜ AtLink a n i t (now work) ⌝ }
-    ensures { λ r. ⌜ (r + 2 < a .keys) × (r ≡ linksAt a (take (a .keys) (now (work .entry))) i + t * linkWords) ⌝ }
+    ensures { λ r. ⌜ (r + linkWords ≤ a .keys) × (r ≡ linksAt a (take (a .keys) (now (work .entry))) i + t * linkWords) ⌝ }
 {
     let at = a.firsts + i;
     let first = work[at] as usize;
@@ -52,7 +52,7 @@ fn words_at(work: &[u64], a: Areas, n: usize, i: usize, t: usize) -> usize
 // Link t of node i.
 pub fn field_at(work: &[u64], a: Areas, n: usize, i: usize, t: usize) -> Field
     requires { ⌜ AtLink a n i t (now work) ⌝ }
-    ensures { λ r. ⌜ FieldOf a n (take (a .keys) (now (work .entry))) i t (r .at) (r .width) (r .child) ⌝ }
+    ensures { λ r. ⌜ FieldOf a n (take (a .keys) (now (work .entry))) i t (linkBy r) ⌝ }
 {
     let j = words_at(work, a, n, i, t);
     Field {

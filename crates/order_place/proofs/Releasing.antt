@@ -9,8 +9,9 @@ use Rattle.regions.proofs.Laws.{region-length}
 use Rattle.regions.proofs.Frame.{kept-all, kept-then}
 use Rattle.work.specs.declared.Areas.{Areas}
 use Rattle.work.specs.Views.{waitingIn, readyIn}
+use Rattle.model.specs.Object.{Link}
 use Rattle.order_graph.specs.Graph.{graphOn, linksAfter, linkCount, AtLink, FieldOf}
-use Rattle.order_graph.proofs.Links.{links-in, links-next, links-none, front-kept, stands-kept}
+use Rattle.order_graph.proofs.Links.{links-in, links-read, links-none, front-kept, stands-kept}
 use Rattle.order_ready.specs.Ready.{Queue, released, waiting, queueOf, Queues}
 use Rattle.order_ready.proofs.Releasing.{released-same, released-ceiling}
 use Rattle.order_place.specs.Run.{releasedAll, Live, ReleasedAll}
@@ -39,19 +40,19 @@ module _ {a : Areas} {n i k : ℕ} {w₀ : List ℕ} (v : Live a n k w₀) (h : 
       unlinking-link =
           record { node = record { graph = stands-kept (v .graph) (s .kept) (omega arith); inside = h }; some = rw front-same u }
 
-      pub unlinking-next : {k″ at width x : ℕ} {w′ : List ℕ} → FieldOf a n (take (a .keys) w) i t at width x → Queues a k′ k″ (released x) w w′ → k″ ≤ a .nodes
+      pub unlinking-next : {k″ : ℕ} {l : Link} {w′ : List ℕ} → FieldOf a n (take (a .keys) w) i t l → Queues a k′ k″ (released (l .child)) w w′ → k″ ≤ a .nodes
           → Unlinking a n i (t + 1) k k″ w₀ w′
       unfolding releasedAll
-      unlinking-next {k″} {at} {width} {x} {w′} e z m =
-          let e₀ : FieldOf a n front i t at width x = rw front-same at e in
+      unlinking-next {k″} {l} {w′} e z m =
+          let e₀ : FieldOf a n front i t l = rw front-same at e in
           let now = region-length (a .ready) k′ w (omega arith) in
           let then = region-length (a .ready) k″ w′ (omega arith) in
           record {
             some = omega arith;
             kept = kept-then (s .kept) (z .kept);
-            left = s .left ∙ rw (links-next a front i t u, releasedAll, ← e₀ .child-is, z .queue);
-            same = omega (arith, released-same x (queueOf a k′ w), ap (λ (q : Queue). waiting (q .counts) + length (q .ready)) (z .queue));
-            ids = omega (arith, released-ceiling x (queueOf a k′ w), ap (λ (q : Queue). ceiling (q .ready)) (z .queue));
+            left = s .left ∙ rw (links-read e₀ u, releasedAll, z .queue);
+            same = omega (arith, released-same (l .child) (queueOf a k′ w), ap (λ (q : Queue). waiting (q .counts) + length (q .ready)) (z .queue));
+            ids = omega (arith, released-ceiling (l .child) (queueOf a k′ w), ap (λ (q : Queue). ceiling (q .ready)) (z .queue));
           }
 
     pub unlinking-all : linkCount a front i ≤ t → ReleasedAll a n i k k′ w₀ w

@@ -10,8 +10,9 @@ use Rattle.regions.proofs.Bounds.{ceiling-at, ceiling-bump}
 use Rattle.regions.proofs.Frame.{kept-all, kept-then, kept-set}
 use Rattle.work.specs.Views.{incomingIn}
 use Rattle.work.specs.declared.Areas.{Areas}
+use Rattle.model.specs.Object.{Link}
 use Rattle.order_graph.specs.Graph.{graphOn, linksAfter, linkCount, FieldOf}
-use Rattle.order_graph.proofs.Links.{links-in, links-next, links-none, front-kept}
+use Rattle.order_graph.proofs.Links.{links-in, links-read, links-none, front-kept}
 use Rattle.order_survey.specs.Survey.{countedAll, farAway, Counting, CountedAll}
 
 -- t fields of node i are counted
@@ -35,17 +36,18 @@ module _ {a : Areas} {n i : ℕ} {w₀ : List ℕ} (s : Counting a n i w₀) whe
         let e : length (incomingIn a w) ≡ a .nodes = region-length (a .incoming) (a .nodes) w (omega arith) in
         omega (arith, s .node .graph .tidy .node i (s .node .inside) .few, region-at (a .incoming) (a .nodes) w x (omega arith), ceiling-at (incomingIn a w) x (omega arith))
 
-    pub counts-next : {at width x : ℕ} → FieldOf a n (take (a .keys) w) i t at width x → t < linkCount a (take (a .keys) w₀) i
-        → Counts a n i (t + 1) w₀ (set w (a .incoming + x) (getD w (a .incoming + x) 0 + 1))
+    pub counts-next : {l : Link} → FieldOf a n (take (a .keys) w) i t l → t < linkCount a (take (a .keys) w₀) i
+        → Counts a n i (t + 1) w₀ (set w (a .incoming + l .child) (getD w (a .incoming + l .child) 0 + 1))
     unfolding countedAll
-    counts-next {at} {width} {x} e h =
-        let e₀ : FieldOf a n (take (a .keys) w₀) i t at width x = rw front at e in
+    counts-next {l} e h =
+        let x = l .child in
+        let e₀ : FieldOf a n (take (a .keys) w₀) i t l = rw front at e in
         let r = region-at (a .incoming) (a .nodes) w x (omega arith) in
         let z = region-in (a .incoming) (a .nodes) w x (getD (incomingIn a w) x 0 + 1) (omega arith) in
         rw r (record {
           some = omega arith;
           kept = kept-then (f .kept) (kept-set (a .incoming) (a .distances) w (a .incoming + x) _ (omega arith) (omega arith));
-          left = f .left ∙ rw (links-next a (take (a .keys) w₀) i t h, countedAll, ← e₀ .child-is, z);
+          left = f .left ∙ rw (links-read e₀ h, countedAll, z);
           bound = rw z (omega (arith, ceiling-bump (incomingIn a w) x));
         })
 

@@ -53,7 +53,7 @@ tidy-light {a} {n} {f} s i l k = node-links a n f (λ m. weight (graphIn a n f) 
     light b t h =
         let o = s .node i b in
         let c = linkOf a f i t .child in
-        rw (lt-ltb c n (o .known t h)) (omega (arith, s .light c (o .known t h), capacity-rises (linkOf a f i t .width) widest (width-most (linkOf a f i t .width) (o .wide t h))))
+        rw (lt-ltb c n (o .known t h)) (omega (arith, s .light c (o .known t h), capacity-rises (linkOf a f i t .slot .width) widest (width-most (linkOf a f i t .slot .width) (o .wide t h))))
 
 -- ---- no path is as long as `farAway`
 

@@ -41,7 +41,7 @@ record Node (a : Areas) (f : List ℕ) (i : ℕ) : Type 0 where
   light : getD f i 0 < mostSize
   few : linkCount a f i ≤ mostNodeLinks
   within : linksAt a f i + linkCount a f i * linkWords ≤ length f
-  wide : (t : ℕ) → t < linkCount a f i → widthOk (linkOf a f i t .width) ≡ true
+  wide : (t : ℕ) → t < linkCount a f i → widthOk (linkOf a f i t .slot .width) ≡ true
   lower : (t : ℕ) → t < linkCount a f i → linkOf a f i t .child < i
 
 node-told : (a : Areas) (f : List ℕ) (i : ℕ) → tidyNode a f i ≡ true → Node a f i
@@ -49,8 +49,8 @@ node-told a f i e =
     let (light, e₁) = both (ltb (getD f i 0) mostSize) _ e in
     let (few, e₂) = both (leb (linkCount a f i) mostNodeLinks) _ e₁ in
     let (within, links) = both (leb (linksAt a f i + linkCount a f i * linkWords) (length f)) _ e₂ in
-    let link : (t : ℕ) → t < linkCount a f i → (widthOk (linkOf a f i t .width) ≡ true) × (ltb (linkOf a f i t .child) i ≡ true) =
-    λ t h. both (widthOk (linkOf a f i t .width)) (ltb (linkOf a f i t .child) i) (below-at (linkCount a f i) (tidyLink a f i) links t h) in
+    let link : (t : ℕ) → t < linkCount a f i → (widthOk (linkOf a f i t .slot .width) ≡ true) × (ltb (linkOf a f i t .child) i ≡ true) =
+    λ t h. both (widthOk (linkOf a f i t .slot .width)) (ltb (linkOf a f i t .child) i) (below-at (linkCount a f i) (tidyLink a f i) links t h) in
     record {
       light = ltb-true _ _ light;
       few = leb-true _ _ few;

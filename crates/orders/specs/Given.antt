@@ -22,7 +22,7 @@ allBelow zero test = true
 allBelow (suc n) test = test n && allBelow n test
 
 abbrev pub tidyLink : Areas → List ℕ → ℕ → ℕ → Bool
-tidyLink a f i t = widthOk (linkOf a f i t .width) && ltb (linkOf a f i t .child) i
+tidyLink a f i t = widthOk (linkOf a f i t .slot .width) && ltb (linkOf a f i t .child) i
 
 abbrev pub tidyNode : Areas → List ℕ → ℕ → Bool
 tidyNode a f i =

@@ -57,7 +57,7 @@ links-region f (suc k) j h =
 
 -- what a right field's tests say of its link
 pub record Right (kids : ℕ) (l : Link) : Type 0 where
-  pub wide : widthOk (l .width) ≡ true
+  pub wide : widthOk (l .slot .width) ≡ true
   pub lower : l .child < kids
 
 pub fields-right : (kids from : ℕ) (bs f : List ℕ) (k j : ℕ) → fieldsOk kids from bs (linksFrom f j k) ≡ true
@@ -70,7 +70,7 @@ fields-right kids from bs f (suc k) j h zero b =
 fields-right kids from bs f (suc k) j h (suc t) b =
     let l = linkAt f j in
     let e : j + linkWords + t * linkWords ≡ j + suc t * linkWords = omega arith in
-    rw e at (fields-right kids (l .at + l .width) bs f k (j + linkWords) (other-fields kids from bs l (linksFrom f (j + linkWords) k) h) t (omega arith))
+    rw e at (fields-right kids (l .slot .at + l .slot .width) bs f k (j + linkWords) (other-fields kids from bs l (linksFrom f (j + linkWords) k) h) t (omega arith))
 
 -- ---- as a graph: children have lower ids
 

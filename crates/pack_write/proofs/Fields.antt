@@ -8,13 +8,13 @@ use Rattle.lists.specs.Lists.{over}
 use Rattle.lists.proofs.Over.{length-over}
 use Rattle.big_endian.specs.BigEndian.{bigEndian}
 use Rattle.big_endian.proofs.Laws.{length-big}
-use Rattle.model.specs.Table.{offset, filled, FieldsIn}
+use Rattle.model.specs.Object.{Link}
+use Rattle.model.specs.Table.{filled, FieldsIn}
 use Rattle.work.specs.Views.{placesIn}
 use Rattle.work.specs.declared.Areas.{Areas}
-use Rattle.order_graph.specs.Graph.{graphOn, linkOf, linksAfter, linkCount, AtNode, FieldOf}
-use Rattle.order_graph.specs.declared.Field.{Field}
-use Rattle.order_graph.proofs.Links.{links-in, links-next, links-none}
-use Rattle.order_fit.specs.Fit.{offsetBy, linkBy}
+use Rattle.order_graph.specs.Graph.{graphOn, linksAfter, linkCount, AtNode, FieldOf}
+use Rattle.order_graph.proofs.Links.{links-in, links-read, links-none}
+use Rattle.order_fit.specs.Fit.{offsetBy}
 
 -- d₀ has become d: t fields of node i are written
 pub record Fields (a : Areas) (n i t : ℕ) (w d₀ d : List ℕ) : Type 0 where
@@ -35,28 +35,24 @@ module _ {a : Areas} {n i : ℕ} {w : List ℕ} (m : AtNode a n i w) where
         let e = links-in a n front i (m .inside) in
         record { some = omega arith; long = refl; from = 0; inside = rw e at f; left = rw e }
 
-    module _ {t : ℕ} {d : List ℕ} {f : Field} (s : Fields a n i t w d₀ d) (h : t < linkCount a front i) (r : FieldOf a n front i t (f .at) (f .width) (f .child)) where
-      next : linksAfter a front i t ≡ linkOf a front i t ∷ linksAfter a front i (t + 1)
-      next = links-next a front i t h
+    module _ {t : ℕ} {d : List ℕ} {l : Link} (s : Fields a n i t w d₀ d) (h : t < linkCount a front i) (r : FieldOf a n front i t l) where
+      next : linksAfter a front i t ≡ l ∷ linksAfter a front i (t + 1)
+      next = links-read r h
 
-      pub field-inside : f .at + f .width ≤ length d
+      pub field-inside : l .slot .at + l .slot .width ≤ length d
       unfolding FieldsIn
-      field-inside = rw (r .at-is, r .width-is, s .long) ((rw (next, FieldsIn) at (s .inside)) .1)
+      field-inside = rw (s .long) ((rw (next, FieldsIn) at (s .inside)) .1)
 
-      module _ {o : ℕ} {d′ : List ℕ} (e : o ≡ offsetBy (placesIn a w) i (linkBy f)) (q : d′ ≡ over (f .at) (bigEndian (f .width) o) d) where
-        offset-is : o ≡ offsetBy (placesIn a w) i (linkOf a front i t)
-        unfolding offset
-        offset-is = e ∙ rw (r .child-is)
-
+      module _ {o : ℕ} {d′ : List ℕ} (e : o ≡ offsetBy (placesIn a w) i l) (q : d′ ≡ over (l .slot .at) (bigEndian (l .slot .width) o) d) where
         pub fields-next : Fields a n i (t + 1) w d₀ d′
         unfolding FieldsIn filled
         fields-next =
             record {
               some = omega arith;
-              long = rw q (length-over (f .at) _ d (rw length-big field-inside) ∙ s .long);
-              from = linkOf a front i t .at + linkOf a front i t .width;
+              long = rw q (length-over (l .slot .at) _ d (rw length-big field-inside) ∙ s .long);
+              from = l .slot .at + l .slot .width;
               inside = (rw (next, FieldsIn) at (s .inside)) .2;
-              left = rw (q, offset-is, r .at-is, r .width-is) (rw (next, filled) at (s .left));
+              left = rw (q, e) (rw (next, filled) at (s .left));
             }
 
     pub fields-all : {t : ℕ} {d : List ℕ} → Fields a n i t w d₀ d → linkCount a front i ≤ t → d ≡ filled (offsetBy (placesIn a w) i) (graphOn a n w .links i) d₀

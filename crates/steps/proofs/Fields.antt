@@ -12,39 +12,39 @@ use Rattle.lists.specs.Lists.{holds}
 use Rattle.lists.proofs.Holds.{holds-at}
 use Rattle.lists.proofs.Same.{and-left, and-right}
 use Rattle.lists.proofs.Frames.{zeros-in, zeros-of}
-use Rattle.model.specs.Object.{Link, Object, noObject, widthOk, withBytes, withLink}
+use Rattle.model.specs.Object.{Link, Object, noObject, widthOk, withBytes, newLink, withLink}
 use Rattle.layout.specs.Fields.{fieldTests, fieldsOk, objectOk}
 use Rattle.layout.proofs.FieldTests.{field-bytes}
 
 -- what a right field's tests say
 pub record Field (kids from : ℕ) (bs : List ℕ) (l : Link) : Type 0 where
-  pub after : from ≤ l .at
-  pub wide : widthOk (l .width) ≡ true
-  pub inside : l .at + l .width ≤ length bs
+  pub after : from ≤ l .slot .at
+  pub wide : widthOk (l .slot .width) ≡ true
+  pub inside : l .slot .at + l .slot .width ≤ length bs
   pub known : l .child < kids
-  pub null : (i : ℕ) → l .at ≤ i → i < l .at + l .width → getD bs i 0 ≡ 0
+  pub null : (i : ℕ) → l .slot .at ≤ i → i < l .slot .at + l .slot .width → getD bs i 0 ≡ 0
 
 module _ (kids from : ℕ) (bs : List ℕ) (l : Link) (ls : List Link) where
   pub first-field : fieldsOk kids from bs (l ∷ ls) ≡ true → Field kids from bs l
   unfolding fieldsOk fieldTests
   first-field h =
-      let at = holds-at (fieldTests kids from bs l) (and-left (holds (fieldTests kids from bs l)) (fieldsOk kids (l .at + l .width) bs ls) h) in
+      let at = holds-at (fieldTests kids from bs l) (and-left (holds (fieldTests kids from bs l)) (fieldsOk kids (l .slot .at + l .slot .width) bs ls) h) in
       record {
         after = leb-true _ _ (at 0);
         wide = at 1;
         inside = leb-true _ _ (at 2);
         known = ltb-true _ _ (at 3);
-        null = zeros-in (l .at) (l .at + l .width) bs (at 4);
+        null = zeros-in (l .slot .at) (l .slot .at + l .slot .width) bs (at 4);
       }
 
-  pub other-fields : fieldsOk kids from bs (l ∷ ls) ≡ true → fieldsOk kids (l .at + l .width) bs ls ≡ true
+  pub other-fields : fieldsOk kids from bs (l ∷ ls) ≡ true → fieldsOk kids (l .slot .at + l .slot .width) bs ls ≡ true
   unfolding fieldsOk
-  other-fields h = and-right (holds (fieldTests kids from bs l)) (fieldsOk kids (l .at + l .width) bs ls) h
+  other-fields h = and-right (holds (fieldTests kids from bs l)) (fieldsOk kids (l .slot .at + l .slot .width) bs ls) h
 
-  fields-of : Field kids from bs l → fieldsOk kids (l .at + l .width) bs ls ≡ true → fieldsOk kids from bs (l ∷ ls) ≡ true
+  fields-of : Field kids from bs l → fieldsOk kids (l .slot .at + l .slot .width) bs ls ≡ true → fieldsOk kids from bs (l ∷ ls) ≡ true
   unfolding fieldsOk
   fields-of f h =
-      rw (← field-bytes kids from bs l (f .after) (f .wide) (f .inside) (f .known), zeros-of (l .at) (l .at + l .width) bs (f .inside) (f .null), h)
+      rw (← field-bytes kids from bs l (f .after) (f .wide) (f .inside) (f .known), zeros-of (l .slot .at) (l .slot .at + l .slot .width) bs (f .inside) (f .null), h)
 
 -- bytes that begin as others do, and no fewer closed objects
 module _ (kids more : ℕ) (bs cs : List ℕ) (k : kids ≤ more) (longer : length bs ≤ length cs) (same : (i : ℕ) → i < length bs → getD cs i 0 ≡ getD bs i 0) where
@@ -61,7 +61,7 @@ module _ (kids more : ℕ) (bs cs : List ℕ) (k : kids ≤ more) (longer : leng
   unfolding fieldsOk
   fields-kept from [] h = refl
   fields-kept from (l ∷ ls) h =
-      fields-of more from cs l ls (field-kept from l (first-field kids from bs l ls h)) (fields-kept (l .at + l .width) ls (other-fields kids from bs l ls h))
+      fields-of more from cs l ls (field-kept from l (first-field kids from bs l ls h)) (fields-kept (l .slot .at + l .slot .width) ls (other-fields kids from bs l ls h))
 
   -- and a field behind them
   fields-last : (from : ℕ) (ls : List Link) (m : Link) → from ≤ length bs → fieldsOk kids from bs ls ≡ true → Field more (length bs) cs m
@@ -72,7 +72,7 @@ module _ (kids more : ℕ) (bs cs : List ℕ) (k : kids ≤ more) (longer : leng
       (record { after = omega (arith, f .after); wide = f .wide; inside = f .inside; known = f .known; null = f .null }) refl
   fields-last from (l ∷ ls) m a h f =
       let g = first-field kids from bs l ls h in
-      fields-of more from cs l (ls ++ (m ∷ [])) (field-kept from l g) (fields-last (l .at + l .width) ls m (g .inside) (other-fields kids from bs l ls h) f)
+      fields-of more from cs l (ls ++ (m ∷ [])) (field-kept from l g) (fields-last (l .slot .at + l .slot .width) ls m (g .inside) (other-fields kids from bs l ls h) f)
 
 -- ---- objects
 
@@ -96,7 +96,7 @@ module _ (kids : ℕ) (o : Object) (h : objectOk kids o ≡ true) where
       let e = length-append (o .bytes) zs in
       let f : length zs ≡ width = length-replicate width 0 in
       fields-last kids kids (o .bytes) (o .bytes ++ zs) (le-refl kids) (omega arith) (λ i c. List·getD-append (o .bytes) zs 0 i c) 0 (o .links)
-      (record { at = n; width = width; child = child }) (omega arith) h
+      (newLink width child o) (omega arith) h
       (record {
         after = le-refl n;
         wide = a;

@@ -29,12 +29,12 @@ module _ (kids : ℕ) (bs : List ℕ) where
   fields-in from [] h = tt
   fields-in from (l ∷ ls) h =
       let f = first-field kids from bs l ls h in
-      (f .after, f .inside, fields-in (l .at + l .width) ls (other-fields kids from bs l ls h))
+      (f .after, f .inside, fields-in (l .slot .at + l .slot .width) ls (other-fields kids from bs l ls h))
 
   fields-low : (from : ℕ) (ls : List Link) → fieldsOk kids from bs ls ≡ true → (c : ℕ) → 0 < count c (kidsOf ls) → c < kids
   unfolding kidsOf count
   fields-low from [] h c k = absurd (omega arith)
-  fields-low from (l ∷ ls) h c k = go (sameOr c (l .child)) (fields-low (l .at + l .width) ls (other-fields kids from bs l ls h) c)
+  fields-low from (l ∷ ls) h c k = go (sameOr c (l .child)) (fields-low (l .slot .at + l .slot .width) ls (other-fields kids from bs l ls h) c)
     where
       go : Same c (l .child) → (0 < count c (kidsOf ls) → c < kids) → c < kids
       go (same e _ _) r = rw e (first-field kids from bs l ls h .known)

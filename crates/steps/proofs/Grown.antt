@@ -14,14 +14,14 @@ use Rattle.lists.proofs.Over.{length-over, over-before, over-after}
 use Rattle.lists.proofs.Frames.{part-same, part-join, part-grown, part-zeros, zeros-in}
 use Rattle.answer.specs.Tally.{grown}
 use Rattle.answer.specs.declared.tally.Tally.{Tally}
-use Rattle.model.specs.Object.{Object, Link, sizeOf, widthOk, withBytes, withLink}
+use Rattle.model.specs.Object.{Object, Link, widthOk, withBytes, newLink, withLink}
 use Rattle.model.specs.Session.{withOpens, onInnermost}
-use Rattle.layout.specs.Words.{closedCount, openDepth, endsAt, linkEndsAt, linksAt, linkWords, linkLimit, wordsOf, linksOf, top, linkTop, low, linkLow}
+use Rattle.layout.specs.Words.{closedCount, openDepth, endsAt, linkEndsAt, linksAt, linkWords, linkLimit, wordsOf, linkOfWords, linksOf, top, linkTop, low, linkLow}
 use Rattle.layout.specs.Fields.{objectOk}
 use Rattle.layout.specs.Decode.{linksFrom, decode}
 use Rattle.layout.specs.Known.{Sound}
 use Rattle.layout.proofs.Links.{linksOf-words, linksOf-append, link-words}
-use Rattle.steps.specs.Steps.{tallyIn, under, linkUnder, inner, linkWordsOf}
+use Rattle.steps.specs.Steps.{tallyIn, under, linkUnder, inner, madeLink, linkWordsOf}
 use Rattle.steps.proofs.Fields.{ok-put, ok-link}
 use Rattle.steps.proofs.Tallies.{tally-same}
 use Rattle.steps.proofs.Innermost.{innermost-decode, outer-decode, inner-is, inner-size, inner-right, inner-edges}
@@ -106,7 +106,7 @@ module _ {b w : List ℕ} (vs : List ℕ) (s : Sound b w) (h : 0 < openDepth w) 
 
 module _ {b w : List ℕ} (width id : ℕ) (s : Sound b w) (h : 0 < openDepth w) (r : top w + width ≤ low w) (q : linkTop w < linkLow w) where
   abbrev made : Link
-  made = record { at = top w - under w; width = width; child = id }
+  made = madeLink width id w
 
   abbrev linkedWords : List ℕ
   linkedWords = linkWordsOf width id w
@@ -144,7 +144,7 @@ module _ {b w : List ℕ} (width id : ℕ) (s : Sound b w) (h : 0 < openDepth w)
       ∙ ap₂ (λ (x y : List ℕ). x ++ y) (ap (λ (o : Object). o .bytes) (sym (inner-is b w h)))
       (part-zeros (top w) (top w + width) b (omega arith) (λ i a c. zeros-in (top w) (low w) b (s .gap) i a (omega arith)) ∙ ap (λ (k : ℕ). replicate k 0) n)
 
-  link-links : linksFrom linkedWords (linkUnder w) (linkTop w + 1) ≡ inner b w .links ++ (record { at = sizeOf (inner b w); width = width; child = id } ∷ [])
+  link-links : linksFrom linkedWords (linkUnder w) (linkTop w + 1) ≡ inner b w .links ++ (newLink width id (inner b w) ∷ [])
   link-links =
       let u = inner-edges b w h s in
       let a : ℕ = linksAt w + linkUnder w * linkWords in
@@ -159,7 +159,7 @@ module _ {b w : List ℕ} (width id : ℕ) (s : Sound b w) (h : 0 < openDepth w)
       ∙ linksOf-append (linkTop w - linkUnder w) (part a i w) (wordsOf made) (omega (arith, length-part a i w (omega arith)))
       ∙ ap₂ (λ (x y : List Link). x ++ y)
       (ap linksOf (sym (link-words w (linkUnder w) (linkTop w) (omega arith))) ∙ ap (λ (o : Object). o .links) (sym (inner-is b w h)))
-      (linksOf-words made ∙ ap (λ (k : ℕ). record { at = k; width = width; child = id } ∷ []) (inner-size b w h s))
+      (linksOf-words made ∙ ap (λ (k : ℕ). linkOfWords k width id ∷ []) (inner-size b w h s))
 
   link-grows : widthOk width ≡ true → id < closedCount w → Grows (withLink width id) (top w + width) (linkTop w + 1) b w b linkedWords
   link-grows wide known =

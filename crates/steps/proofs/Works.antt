@@ -31,7 +31,7 @@ use Rattle.layout.specs.Sound.{sound}
 use Rattle.layout.specs.Known.{Innermost}
 use Rattle.layout.specs.declared.span.Span.{Span}
 use Rattle.layout.proofs.Facts.{sound-facts, sound-known}
-use Rattle.steps.specs.Steps.{Out, outcome, tallyIn, settleStep, limitsOf, startWords, startStep, openStep, putStep, under, linkWordsOf, linkStep, closeStep, droppedBytes, droppedWords, dropStep, tallyStep}
+use Rattle.steps.specs.Steps.{Out, outcome, tallyIn, settleStep, limitsOf, startWords, startStep, openStep, putStep, madeLink, linkWordsOf, linkStep, closeStep, droppedBytes, droppedWords, dropStep, tallyStep}
 use Rattle.steps.specs.Runs.{StoreCall, start, open', put, link, close, drop, tally, stores, left, stepOn}
 use Rattle.steps.proofs.Held.{Held}
 
@@ -205,7 +205,7 @@ module _ {b w : List ℕ} {s : State} {t : Tally} (h : Held b w s t) where
             link-done k = rw (h .tallyIs) (settle-accepted b w (ready some (next wide (next known (next free (next (roomy width k) none))))))
 
 -- a link's record, stored word by word
-link-stored : (i : ℕ) (l : Link) (w : List ℕ) → i + 2 < length w → set (set (set w i (l .at)) (i + 1) (l .width)) (i + 2) (l .child) ≡ over i (wordsOf l) w
+link-stored : (i : ℕ) (l : Link) (w : List ℕ) → i + linkWords ≤ length w → set (set (set w i (l .slot .at)) (i + 1) (l .slot .width)) (i + 2) (l .child) ≡ over i (wordsOf l) w
 unfolding over
 link-stored i l w h = let e : i + 2 ≡ suc (suc i) = omega arith in rw (add-one, e) (rw append-assoc at (sets-eq (wordsOf l) w i (omega arith)))
 
@@ -214,9 +214,9 @@ pub append-done : {w : List ℕ} {s : State} {own : Span} (width child : ℕ) �
     set (set (set (set (set w i (own .to - own .from)) (i + 1) width) (i + 2) child) (endsAt + s .depth) (s .top + width)) (linkEndsAt + s .depth) (s .«link_top» + 1)
     ≡ linkWordsOf width child w
 append-done {w} {s} width child k h =
-    let long : linksBase + s .objects * 2 + s .«link_top» * linkWords + 2 < length w = omega (arith, k .words .bounds) in
+    let long : linksBase + s .objects * 2 + s .«link_top» * linkWords + linkWords ≤ length w = omega (arith, k .words .bounds) in
     rw (k .is, k .words .is)
-    (rw (link-stored (linksAt w + linkTop w * linkWords) (record { at = top w - under w; width = width; child = child }) w (rw (k .words .is) at long)))
+    (rw (link-stored (linksAt w + linkTop w * linkWords) (madeLink width child w) w (rw (k .words .is) at long)))
 
 -- a put of no bytes with an object open is accepted and changes nothing
 pub put-nothing : (b w : List ℕ) → sound b w ≡ true → 0 < openDepth w → stepOn (put []) (stores b w) ≡ left (done (tallyIn b w)) b w

@@ -11,7 +11,7 @@ use Rattle.answer.specs.declared.Answer.{Answer}
 use Rattle.answer.specs.declared.Answer.the-variants.{Done, Refused}
 use Rattle.answer.specs.declared.Closing.{Closing}
 use Rattle.answer.specs.declared.Closing.the-variants as Closing
-use Rattle.model.specs.Object.{Object, sameObject}
+use Rattle.model.specs.Object.{Link, Object, sameObject}
 use Rattle.model.specs.Judge.{Limits, Verdict, accepted, refused, judgeStart, judgeOpen, judgePut, judgeLink, judgeClose, judgeDrop, judgeTally}
 use Rattle.layout.specs.declared.state.State.{State}
 use Rattle.layout.specs.Words.{objectLimitAt, closedCountAt, openDepthAt, closedCount, openDepth, endsAt, linkEndsAt, beginsAt, linkBeginsBase, linkBeginsAt, linksAt, linkWords, need, limitsIn, linkLimit, top, linkTop, low, linkLow, wordsOf}
@@ -95,9 +95,13 @@ inner b w = openAt b w (openDepth w - 1)
 
 -- ---- link: its field is zero bytes, which stand there already; its record behind the open ones
 
+-- its field begins where the innermost open object ended
+abbrev pub madeLink : ℕ → ℕ → List ℕ → Link
+madeLink width id w = record { slot = record { at = top w - under w; width = width }; child = id }
+
 abbrev pub linkWordsOf : ℕ → ℕ → List ℕ → List ℕ
 linkWordsOf width id w =
-    set (set (over (linksAt w + linkTop w * linkWords) (wordsOf (record { at = top w - under w; width = width; child = id })) w) (endsAt + openDepth w) (top w + width))
+    set (set (over (linksAt w + linkTop w * linkWords) (wordsOf (madeLink width id w)) w) (endsAt + openDepth w) (top w + width))
     (linkEndsAt + openDepth w) (linkTop w + 1)
 
 unfoldable pub linkStep : ℕ → ℕ → List ℕ → List ℕ → Out

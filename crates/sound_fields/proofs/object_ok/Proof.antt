@@ -52,7 +52,7 @@ loop-again c =
     let l = at-link .before .before .loop in
     let read = at-link .link-at .ensures .is in
     let z = sym (c .before .before .field-ok .ensures) ∙ not-false _ (c .before .if1 .left) in
-    let ends = ap (λ (x : Link). x .at + x .width) read in
+    let ends = ap (λ (x : Link). x .slot .at + x .slot .width) read in
     (search needs, l .inv .1 ∙ fields-next _ (l .from) _ _ (l .i) (search needs) ∙ rw (← read, z, ends))
 
 returns-2 : tie.Need-returns-2 Inv-loop μ-loop
