@@ -1,6 +1,7 @@
 -- An open object that grows: its reading, its children and its fields after bytes or a link are appended.
 use mathlib.Core.Path.{_≡_, refl, ap}
 use Prim.Native.Nat.{ℕ, _+_, _≤_, _<_}
+use native.Mathlib.Nat.{le-refl}
 use mathlib.Core.List.{List, [], _∷_, _++_}
 use native.Mathlib.Omega.{arith}
 use lib.ListN.{length, length-append, length-replicate}
@@ -9,10 +10,11 @@ use Rattle.lists.proofs.Elements.{total-append}
 use Rattle.model.specs.Bag.{one, count}
 use Rattle.model.specs.Object.{Link, Object, noObject, sizeOf, linkCount, withBytes, newLink, withLink}
 use Rattle.model.specs.Graph.{kidsOf}
-use Rattle.model.specs.Table.{FieldsIn}
+use Rattle.model.specs.Table.{SlotIn, FieldsIn}
 use Rattle.model.specs.Reading.{Reading, readingSize, fieldCount, readLinks, readingAt, readObject, readingsFrom, readings}
 use Rattle.model.specs.History.{putOn, fieldOn, linkOn}
 use Rattle.model.proofs.Bags.{Same, same, other, sameOr}
+use Rattle.model.proofs.Filled.{slot-room}
 use Rattle.model.proofs.Tables.{read-bytes}
 
 -- ---- readings
@@ -71,14 +73,14 @@ kids-snoc c (k ∷ ls) l = omega (arith, kids-snoc c ls l)
 pub fields-room : (from n m : ℕ) (ls : List Link) → n ≤ m → FieldsIn from n ls → FieldsIn from m ls
 unfolding FieldsIn
 fields-room from n m [] h f = tt
-fields-room from n m (l ∷ ls) h f = (f .0, omega (arith, f .1), fields-room (l .slot .at + l .slot .width) n m ls h (f .2))
+fields-room from n m (l ∷ ls) h f = (slot-room (f .0) from m (le-refl from) h, fields-room (l .slot .at + l .slot .width) n m ls h (f .1))
 
 -- a last field behind all the bytes
-fields-snoc : (from : ℕ) (ls : List Link) (m : Link) → from ≤ m .slot .at → FieldsIn from (m .slot .at) ls
-    → FieldsIn from (m .slot .at + m .slot .width) (ls ++ (m ∷ []))
+fields-snoc : (from n k : ℕ) (ls : List Link) (m : Link) → from ≤ n → n ≤ k → FieldsIn from n ls → SlotIn n k (m .slot) → FieldsIn from k (ls ++ (m ∷ []))
 unfolding FieldsIn
-fields-snoc from [] m h f = (h, omega arith, tt)
-fields-snoc from (l ∷ ls) m h f = (f .0, omega (arith, f .1), fields-snoc (l .slot .at + l .slot .width) ls m (f .1) (f .2))
+fields-snoc from n k [] m a b f s = (slot-room s from k a (le-refl k), tt)
+fields-snoc from n k (l ∷ ls) m a b f s =
+    (slot-room (f .0) from k (le-refl from) b, fields-snoc (l .slot .at + l .slot .width) n k ls m (f .0 .inside) b (f .1) s)
 
 pub formed-none : (n : ℕ) → Formed n noObject
 unfolding kidsOf count FieldsIn
@@ -97,7 +99,8 @@ module _ {n : ℕ} {o : Object} (f : Formed n o) where
   pub formed-link : (w id : ℕ) → id < n → Formed n (withLink w id o)
   formed-link w id h = record {
     low = λ c k. go c k (sameOr c id);
-    inside = rw (length-append, length-replicate) (fields-snoc 0 (o .links) (newLink w id o) (omega arith) (f .inside));
+    inside = rw (length-append, length-replicate)
+        (fields-snoc 0 (sizeOf o) (sizeOf o + w) (o .links) (newLink w id o) (omega arith) (omega arith) (f .inside) (record { after = le-refl (sizeOf o); inside = le-refl (sizeOf o + w) }));
   }
     where
       go : (c : ℕ) → 0 < count c (kidsOf (withLink w id o .links)) → Same c id → c < n

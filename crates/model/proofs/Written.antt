@@ -21,8 +21,8 @@ module _ (off : Link → ℕ) where
   unfolding filled FieldsIn wrote
   filled-append from [] bs r f = refl
   filled-append from (l ∷ ls) bs r f =
-      ap (filled off ls) (over-append (l .slot .at) (bigEndian (l .slot .width) (off l)) bs r (rw length-big (f .1)))
-      ∙ filled-append (l .slot .at + l .slot .width) ls (wrote off l bs) r (rw (length-wrote off l bs (f .1)) (f .2))
+      ap (filled off ls) (over-append (l .slot .at) (bigEndian (l .slot .width) (off l)) bs r (rw length-big (f .0 .inside)))
+      ∙ filled-append (l .slot .at + l .slot .width) ls (wrote off l bs) r (rw (length-wrote off l bs (f .0 .inside)) (f .1))
 
   -- fields inside bytes that stand at the front of a list
   pub filled-over : (ls : List Link) (bs d : List ℕ) → FieldsIn 0 (length bs) ls → filled off ls (over 0 bs d) ≡ over 0 (filled off ls bs) d

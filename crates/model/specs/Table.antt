@@ -7,7 +7,7 @@ use lib.Dec.{eqb}
 use Rattle.lists.specs.Lists.{pick, total, over}
 use Rattle.answer.specs.declared.Overflow.{Overflow}
 use Rattle.big_endian.specs.BigEndian.{fits, bigEndian}
-use Rattle.model.specs.Object.{Link}
+use Rattle.model.specs.Object.{Slot, Link}
 use Rattle.model.specs.Graph.{Graph, reached}
 use Rattle.model.specs.Distance.{kahnOrder, distanceOrder}
 
@@ -104,10 +104,15 @@ tableOf g content o = tableFrom g content (placeOf g o) o
 
 -- ---- what the laws of tables ask
 
--- fields in rising order, apart, from `from` on, inside n bytes
+-- a field from `from` on, inside n bytes
+pub record SlotIn (from n : ℕ) (s : Slot) : Type 0 where
+  pub after : from ≤ s .at
+  pub inside : s .at + s .width ≤ n
+
+-- fields in rising order, apart
 unfoldable pub FieldsIn : ℕ → ℕ → List Link → Type 0
 FieldsIn from n [] = Unit {0}
-FieldsIn from n (l ∷ ls) = (from ≤ l .slot .at) × (l .slot .at + l .slot .width ≤ n) × FieldsIn (l .slot .at + l .slot .width) n ls
+FieldsIn from n (l ∷ ls) = SlotIn from n (l .slot) × FieldsIn (l .slot .at + l .slot .width) n ls
 
 unfoldable pub Fields : Graph → Type 0
 Fields g = (i : ℕ) → FieldsIn 0 (g .size i) (g .links i)

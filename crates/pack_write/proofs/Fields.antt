@@ -41,7 +41,7 @@ module _ {a : Areas} {n i : ℕ} {w : List ℕ} (m : AtNode a n i w) where
 
       pub field-inside : l .slot .at + l .slot .width ≤ length d
       unfolding FieldsIn
-      field-inside = rw (s .long) ((rw (next, FieldsIn) at (s .inside)) .1)
+      field-inside = rw (s .long) ((rw (next, FieldsIn) at (s .inside)) .0 .inside)
 
       module _ {o : ℕ} {d′ : List ℕ} (e : o ≡ offsetBy (placesIn a w) i l) (q : d′ ≡ over (l .slot .at) (bigEndian (l .slot .width) o) d) where
         pub fields-next : Fields a n i (t + 1) w d₀ d′
@@ -51,7 +51,7 @@ module _ {a : Areas} {n i : ℕ} {w : List ℕ} (m : AtNode a n i w) where
               some = omega arith;
               long = rw q (length-over (l .slot .at) _ d (rw length-big field-inside) ∙ s .long);
               from = l .slot .at + l .slot .width;
-              inside = (rw (next, FieldsIn) at (s .inside)) .2;
+              inside = (rw (next, FieldsIn) at (s .inside)) .1;
               left = rw (q, e) (rw (next, filled) at (s .left));
             }
 

@@ -13,14 +13,15 @@ use Rattle.lists.proofs.Holds.{holds-at}
 use Rattle.lists.proofs.Same.{and-left, and-right}
 use Rattle.lists.proofs.Frames.{zeros-in, zeros-of}
 use Rattle.model.specs.Object.{Link, Object, noObject, widthOk, withBytes, newLink, withLink}
+use Rattle.model.specs.Table.{SlotIn}
+use Rattle.model.proofs.Filled.{slot-room}
 use Rattle.layout.specs.Fields.{fieldTests, fieldsOk, objectOk}
 use Rattle.layout.proofs.FieldTests.{field-bytes}
 
 -- what a right field's tests say
 pub record Field (kids from : ℕ) (bs : List ℕ) (l : Link) : Type 0 where
-  pub after : from ≤ l .slot .at
+  pub room : SlotIn from (length bs) (l .slot)
   pub wide : widthOk (l .slot .width) ≡ true
-  pub inside : l .slot .at + l .slot .width ≤ length bs
   pub known : l .child < kids
   pub null : (i : ℕ) → l .slot .at ≤ i → i < l .slot .at + l .slot .width → getD bs i 0 ≡ 0
 
@@ -30,9 +31,8 @@ module _ (kids from : ℕ) (bs : List ℕ) (l : Link) (ls : List Link) where
   first-field h =
       let at = holds-at (fieldTests kids from bs l) (and-left (holds (fieldTests kids from bs l)) (fieldsOk kids (l .slot .at + l .slot .width) bs ls) h) in
       record {
-        after = leb-true _ _ (at 0);
+        room = record { after = leb-true _ _ (at 0); inside = leb-true _ _ (at 2) };
         wide = at 1;
-        inside = leb-true _ _ (at 2);
         known = ltb-true _ _ (at 3);
         null = zeros-in (l .slot .at) (l .slot .at + l .slot .width) bs (at 4);
       }
@@ -44,17 +44,16 @@ module _ (kids from : ℕ) (bs : List ℕ) (l : Link) (ls : List Link) where
   fields-of : Field kids from bs l → fieldsOk kids (l .slot .at + l .slot .width) bs ls ≡ true → fieldsOk kids from bs (l ∷ ls) ≡ true
   unfolding fieldsOk
   fields-of f h =
-      rw (← field-bytes kids from bs l (f .after) (f .wide) (f .inside) (f .known), zeros-of (l .slot .at) (l .slot .at + l .slot .width) bs (f .inside) (f .null), h)
+      rw (← field-bytes kids from bs l (f .room) (f .wide) (f .known), zeros-of (l .slot .at) (l .slot .at + l .slot .width) bs (f .room .inside) (f .null), h)
 
 -- bytes that begin as others do, and no fewer closed objects
 module _ (kids more : ℕ) (bs cs : List ℕ) (k : kids ≤ more) (longer : length bs ≤ length cs) (same : (i : ℕ) → i < length bs → getD cs i 0 ≡ getD bs i 0) where
   field-kept : (from : ℕ) (l : Link) → Field kids from bs l → Field more from cs l
   field-kept from l f = record {
-    after = f .after;
+    room = slot-room (f .room) from (length cs) (le-refl from) longer;
     wide = f .wide;
-    inside = omega (arith, f .inside);
     known = omega (arith, f .known);
-    null = λ i a b. same i (omega (arith, f .inside)) ∙ f .null i a b;
+    null = λ i a b. same i (omega (arith, f .room .inside)) ∙ f .null i a b;
   }
 
   fields-kept : (from : ℕ) (ls : List Link) → fieldsOk kids from bs ls ≡ true → fieldsOk more from cs ls ≡ true
@@ -69,10 +68,10 @@ module _ (kids more : ℕ) (bs cs : List ℕ) (k : kids ≤ more) (longer : leng
   unfolding fieldsOk
   fields-last from [] m a h f =
       fields-of more from cs m []
-      (record { after = omega (arith, f .after); wide = f .wide; inside = f .inside; known = f .known; null = f .null }) refl
+      (record { room = slot-room (f .room) from (length cs) a (le-refl (length cs)); wide = f .wide; known = f .known; null = f .null }) refl
   fields-last from (l ∷ ls) m a h f =
       let g = first-field kids from bs l ls h in
-      fields-of more from cs l (ls ++ (m ∷ [])) (field-kept from l g) (fields-last (l .slot .at + l .slot .width) ls m (g .inside) (other-fields kids from bs l ls h) f)
+      fields-of more from cs l (ls ++ (m ∷ [])) (field-kept from l g) (fields-last (l .slot .at + l .slot .width) ls m (g .room .inside) (other-fields kids from bs l ls h) f)
 
 -- ---- objects
 
@@ -98,9 +97,8 @@ module _ (kids : ℕ) (o : Object) (h : objectOk kids o ≡ true) where
       fields-last kids kids (o .bytes) (o .bytes ++ zs) (le-refl kids) (omega arith) (λ i c. List·getD-append (o .bytes) zs 0 i c) 0 (o .links)
       (newLink width child o) (omega arith) h
       (record {
-        after = le-refl n;
+        room = record { after = le-refl n; inside = omega arith };
         wide = a;
-        inside = omega arith;
         known = b;
         null = λ i c d. let m : i ≡ n + (i - n) = omega arith in rw (m, getD-append-add (o .bytes) zs (i - n) 0) (getD-replicate width (i - n) 0 0 (omega arith));
       })

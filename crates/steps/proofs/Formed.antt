@@ -29,7 +29,7 @@ module _ (kids : ℕ) (bs : List ℕ) where
   fields-in from [] h = tt
   fields-in from (l ∷ ls) h =
       let f = first-field kids from bs l ls h in
-      (f .after, f .inside, fields-in (l .slot .at + l .slot .width) ls (other-fields kids from bs l ls h))
+      (f .room, fields-in (l .slot .at + l .slot .width) ls (other-fields kids from bs l ls h))
 
   fields-low : (from : ℕ) (ls : List Link) → fieldsOk kids from bs ls ≡ true → (c : ℕ) → 0 < count c (kidsOf ls) → c < kids
   unfolding kidsOf count

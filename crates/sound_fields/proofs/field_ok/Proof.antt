@@ -45,7 +45,8 @@ all-zero-requires c κs = search needs
 returns-5 : tie.Need-returns-5
 returns-5 c =
     let wide = sym (c .before .before .before .before .before .width-ok .ensures) ∙ not-false _ (c .before .before .before .before .if2 .left) in
-    c .all-zero .ensures ∙ field-bytes _ _ _ _ (c .before .before .before .before .before .before .if1 .left) wide (c .before .before .before .if3 .left) (c .before .before .if4 .left)
+    c .all-zero .ensures
+    ∙ field-bytes _ _ _ _ (record { after = c .before .before .before .before .before .before .if1 .left; inside = c .before .before .before .if3 .left }) wide (c .before .before .if4 .left)
 
 pub field-ok-spec : {M : Type 1} → statement M
 field-ok-spec =
