@@ -9,7 +9,7 @@ use Rattle.model.specs.Reading.{Reading, readings}
 use Rattle.model.specs.Judge.{Verdict, accepted, refused, verdict}
 use Rattle.model.specs.Told.{Told, doneClose}
 use Rattle.model.specs.Session.{Session, SessionCall, closeCall, sessionCall, packCall, PackLeft, step, afterCall}
-use Rattle.model.specs.History.{History, historyOf, inner, idOf, counts, begun, judged, accept, after, afterAll, tell, idTold, expected, AllDifferent, PackAgrees, Alike, Agrees}
+use Rattle.model.specs.History.{History, historyOf, innermostReading, idOf, counts, begun, judged, accept, after, afterAll, tell, idTold, expected, AllDifferent, PackAgrees, Alike, Agrees}
 use Rattle.model.proofs.Verdicts.{refused-number}
 use Rattle.model.proofs.Closings.{Known, known-alike, known-closed, known-all}
 use Rattle.model.proofs.Twins.{distinct-id}
@@ -116,7 +116,7 @@ module _ (bytes words : ℕ) where
 
   -- after it the object's reading is known by that id
   closed-known : (h : History) (c : LentCall) {l : LentLeft} → Claim bytes words c h l → Closes (record { call = c; left = l })
-      → Known (inner (h .opens)) (l .told .id) (afterOne bytes words c h .closed)
+      → Known (innermostReading (h .opens)) (l .told .id) (afterOne bytes words c h .closed)
   unfolding afterAll after asLent asCall accept
   closed-known h c k z = let t = closed-told h k z in rw (z .close-is, t .0, t .1) (known-closed h)
 
@@ -125,7 +125,7 @@ module _ (bytes words : ℕ) where
   keeps-id [] k q = tt
   keeps-id {r} {i} (c ∷ cs) {h = h} k q =
       let l = claimed bytes words c k in
-      (λ z. subst (λ j. Alike (inner (h .opens)) r j i) (sym (closed-told h (l .claim) z .1)) (known-alike q (inner (h .opens))), λ n. keeps-id cs (l .stands) (known-all needs _ h n q))
+      (λ z. subst (λ j. Alike (innermostReading (h .opens)) r j i) (sym (closed-told h (l .claim) z .1)) (known-alike q (innermostReading (h .opens))), λ n. keeps-id cs (l .stands) (known-all needs _ h n q))
 
   -- ---- a list of calls
 

@@ -7,7 +7,7 @@ use lib.ListN.{getD, replicate}
 use Rattle.lists.specs.Lists.{over, holds, zeros, total}
 use Rattle.model.specs.Reading.{bytesOf, fieldCount, readLinks, readingsFrom, readings}
 use Rattle.model.specs.Judge.{Limits, verdict}
-use Rattle.model.specs.History.{History, historyOf, inner, begun, putOn, judged, accept, after, afterAll}
+use Rattle.model.specs.History.{History, historyOf, innermostReading, begun, putOn, judged, accept, after, afterAll}
 use Rattle.layout.specs.Tables.{chain, chained, forAll}
 use Rattle.layout.specs.Words.{need, linksOf}
 use Rattle.layout.specs.Fields.{fieldTests, fieldsOk}
@@ -41,7 +41,7 @@ put62 =
 
 -- the first byte of the innermost open object
 abbrev firstByte : History → ℕ
-firstByte h = getD (bytesOf (inner (h .opens))) 0 0
+firstByte h = getD (bytesOf (innermostReading (h .opens))) 0 0
 
 stored : firstByte (historyOf (decode (put62 .left .stores .bytes) (put62 .left .stores .words))) ≡ 0x62
 unfolding bytesOf readLinks readings readingsFrom linksOf opensTo closedTo decode stepOn startStep openStep putStep verdict over holds headTests headOk tableTests soundTests sound fieldTests fieldsOk chain chained forAll zeros

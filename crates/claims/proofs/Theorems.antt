@@ -15,7 +15,7 @@ use Rattle.model.specs.Object.{widthOk}
 use Rattle.model.specs.Reading.{Reading}
 use Rattle.model.specs.Judge.{Verdict, accepted, refused, numberOf, Test, Tells, none, this, next, verdict, putTests, linkTests}
 use Rattle.model.specs.Told.{Told, doneClose}
-use Rattle.model.specs.History.{History, inner, sum, counts, judged, expected, tell, AllDifferent, Alike}
+use Rattle.model.specs.History.{History, innermostReading, sum, counts, judged, expected, tell, AllDifferent, Alike}
 use Rattle.model.proofs.Refusals.{told-exactly}
 use Rattle.steps.specs.Runs.{StoreCall, put, link, tally, Stores, stepOn, onStores, pack, asCall}
 use Rattle.steps.proofs.Held.{some-open}
@@ -112,7 +112,7 @@ module _ (bytes words : ℕ) (s : Stores) (h : History) (xs : List Made) (m : Ma
 -- ---- two accepted closings, with no accepted start between them, tell the same id exactly if their objects read the same
 
 kept-id : (bytes words : ℕ) (r : Reading) (i : ℕ) (ms : List Made) (k : Made) (ys : List Made) (h : History) → KeepsId bytes words r i (ms ++ (k ∷ ys)) h → NoStarts bytes words ms h → Closes k
-    → Alike (inner (historyAfter bytes words ms h .opens)) r (k .left .told .id) i
+    → Alike (innermostReading (historyAfter bytes words ms h .opens)) r (k .left .told .id) i
 unfolding KeepsId NoStarts historyAfter
 kept-id bytes words r i [] k ys h q n c = q .0 c
 kept-id bytes words r i (m ∷ ms) k ys h q n c = kept-id bytes words r i ms k ys (afterOne bytes words (m .call) h) (q .1 (n .0)) (n .1) c
@@ -120,8 +120,8 @@ kept-id bytes words r i (m ∷ ms) k ys h q n c = kept-id bytes words r i ms k y
 pub same-id : (bytes words : ℕ) (s : Stores) (h : History) (xs : List Made) (m : Made) (ms : List Made) (k : Made) (ys : List Made) → AllClaim bytes words (xs ++ (m ∷ (ms ++ (k ∷ ys)))) s h
     → let h₁ = historyAfter bytes words xs h in
     let h₂ = afterOne bytes words (m .call) h₁ in
-    Closes m → NoStarts bytes words ms h₂ → Closes k → Alike (inner (historyAfter bytes words ms h₂ .opens)) (inner (h₁ .opens)) (k .left .told .id) (m .left .told .id)
+    Closes m → NoStarts bytes words ms h₂ → Closes k → Alike (innermostReading (historyAfter bytes words ms h₂ .opens)) (innermostReading (h₁ .opens)) (k .left .told .id) (m .left .told .id)
 unfolding AllClaim
 same-id bytes words s h xs m ms k ys all c n d =
     let h₁ = historyAfter bytes words xs h in
-    kept-id bytes words (inner (h₁ .opens)) (m .left .told .id) ms k ys (afterOne bytes words (m .call) h₁) (all-after bytes words xs (m ∷ (ms ++ (k ∷ ys))) s h all .3 c) n d
+    kept-id bytes words (innermostReading (h₁ .opens)) (m .left .told .id) ms k ys (afterOne bytes words (m .call) h₁) (all-after bytes words xs (m ∷ (ms ++ (k ∷ ys))) s h all .3 c) n d

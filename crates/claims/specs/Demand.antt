@@ -10,7 +10,7 @@ use Rattle.answer.specs.Number.{noTally}
 use Rattle.model.specs.Told.{done}
 use Rattle.model.specs.Reading.{Reading, readingAt, readingSize, Shows, below, different}
 use Rattle.model.specs.Session.{Needs, Call, sessionCall, packCall}
-use Rattle.model.specs.History.{History, historyOf, inner, counts, expected, afterAll, NoStart, AllDifferent, Alike}
+use Rattle.model.specs.History.{History, historyOf, innermostReading, counts, expected, afterAll, NoStart, AllDifferent, Alike}
 use Rattle.layout.specs.Sound.{sound}
 use Rattle.layout.specs.Decode.{decode}
 use Rattle.work.specs.Areas.{workNeed}
@@ -92,7 +92,7 @@ module _ (bytes words : ℕ) where
   unfoldable pub KeepsId : Reading → ℕ → List Made → History → Type 0
   KeepsId r i [] h = Unit {0}
   KeepsId r i (m ∷ ms) h =
-      (Closes m → Alike (inner (h .opens)) r (m .left .told .id) i) × (NoStart needs (asLent (m .call)) h → KeepsId r i ms (afterOne (m .call) h))
+      (Closes m → Alike (innermostReading (h .opens)) r (m .left .told .id) i) × (NoStart needs (asLent (m .call)) h → KeepsId r i ms (afterOne (m .call) h))
 
   -- ---- one claim about the whole list: before the first call and after each the stores agree with the history; no call tells 12; each is as
   -- the history says; and an id that a close told is kept for its reading
@@ -102,4 +102,4 @@ module _ (bytes words : ℕ) where
   AllClaim (m ∷ ms) s h =
       let l = m .left in
       let h′ = afterOne (m .call) h in
-      Agree s h × (l .told .number ≡ 12 → ⊥) × Claim (m .call) h l × (Closes m → KeepsId (inner (h .opens)) (l .told .id) ms h′) × AllClaim ms (l .stores) h′
+      Agree s h × (l .told .number ≡ 12 → ⊥) × Claim (m .call) h l × (Closes m → KeepsId (innermostReading (h .opens)) (l .told .id) ms h′) × AllClaim ms (l .stores) h′

@@ -13,7 +13,7 @@ use Rattle.lists.proofs.Frames.{first-most}
 use Rattle.model.specs.Reading.{Reading, bytes, sameReading, readingAt}
 use Rattle.model.specs.Judge.{Verdict, accepted, refused}
 use Rattle.model.specs.Session.{Needs, SessionCall, startCall, openCall, putCall, linkCall, closeCall, dropCall, tallyCall, Call, sessionCall, packCall}
-use Rattle.model.specs.History.{History, inner, idOf, closes, judged, accept, next, after, afterAll, Starts, NoStart, Alike}
+use Rattle.model.specs.History.{History, innermostReading, idOf, closes, judged, accept, next, after, afterAll, Starts, NoStart, Alike}
 use Rattle.model.proofs.SameReading.{reading-equal, reading-self}
 
 -- ---- ids stay
@@ -43,13 +43,13 @@ known-alike {l = l} k q = record {
 }
 
 -- after an accepted close its object's reading is known by the id that it tells
-pub known-closed : (h : History) → Known (inner (h .opens)) (idOf h) (closes h .closed)
+pub known-closed : (h : History) → Known (innermostReading (h .opens)) (idOf h) (closes h .closed)
 known-closed h = go (ltb (idOf h) (length (h .closed))) refl
   where
-    go : (b : Bool) → ltb (idOf h) (length (h .closed)) ≡ b → Known (inner (h .opens)) (idOf h) (pick b (h .closed) (h .closed ++ (inner (h .opens) ∷ [])))
+    go : (b : Bool) → ltb (idOf h) (length (h .closed)) ≡ b → Known (innermostReading (h .opens)) (idOf h) (pick b (h .closed) (h .closed ++ (innermostReading (h .opens) ∷ [])))
     go true e = record { first = refl; within = ltb-true _ _ e }
     go false e =
-        let r = inner (h .opens) in
+        let r = innermostReading (h .opens) in
         record {
           first = first-more (sameReading r) (h .closed) r (λ k. reading-self r);
           within = omega (arith, length-append (h .closed) (r ∷ []), first-most (sameReading r) (h .closed));
@@ -67,9 +67,9 @@ module _ (n : Needs) {r : Reading} {i : ℕ} where
   known-accept (linkCall w id) h s e k = k
   known-accept closeCall h s e k = go (ltb (idOf h) (length (h .closed)))
     where
-      go : (b : Bool) → Known r i (pick b (h .closed) (h .closed ++ (inner (h .opens) ∷ [])))
+      go : (b : Bool) → Known r i (pick b (h .closed) (h .closed ++ (innermostReading (h .opens) ∷ [])))
       go true = k
-      go false = known-more k (inner (h .opens))
+      go false = known-more k (innermostReading (h .opens))
   known-accept dropCall h s e k = k
   known-accept tallyCall h s e k = k
 

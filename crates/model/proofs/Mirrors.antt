@@ -15,7 +15,7 @@ use Rattle.model.specs.Table.{Fields}
 use Rattle.model.specs.Reading.{Reading, readingSize, fieldCount, sameReading, readLinks, readObject, readingsFrom, readings}
 use Rattle.model.specs.Judge.{Limits}
 use Rattle.model.specs.Session.{Session, tallyOf, started, withOpens, innermost, outer, onInnermost, twin, sealed, SessionCall, openCall, putCall, linkCall, closeCall, dropCall}
-use Rattle.model.specs.History.{History, historyOf, counts, begun, keepOpens, inner, others, idOf, accept}
+use Rattle.model.specs.History.{History, historyOf, counts, begun, keepOpens, innermostReading, others, idOf, accept}
 use Rattle.model.proofs.Readings.{read-more, readings-snoc}
 use Rattle.model.proofs.Growth.{read-size, read-count, read-put, read-link, total-readings, Formed, formed-none, formed-more, formed-put, formed-link}
 use Rattle.model.proofs.Twins.{Distinct, distinct-snoc, readings-count, twin-id}
@@ -53,7 +53,7 @@ mirrors-started m = record { read = refl; open-formed = none; closed-formed = fo
 
 -- ---- the innermost open object and the others
 
-inner-map : (rs : List Reading) (os : List Object) → inner (map (readObject rs) os) ≡ readObject rs (innermost os)
+inner-map : (rs : List Reading) (os : List Object) → innermostReading (map (readObject rs) os) ≡ readObject rs (innermost os)
 unfolding readLinks
 inner-map rs [] = refl
 inner-map rs (o ∷ os) = refl
@@ -86,9 +86,9 @@ module _ {s : Session} {h : History} (m : Mirrors s h) where
   pub mirrors-counts : tallyOf s ≡ counts h
   mirrors-counts = history-counts s ∙ ap (λ (k : History). counts k) (m .read)
 
-  pub mirrors-size : sizeOf o ≡ readingSize (inner (h .opens))
+  pub mirrors-size : sizeOf o ≡ readingSize (innermostReading (h .opens))
   mirrors-size =
-      sym (read-size rs o) ∙ ap (λ (r : Reading). readingSize r) (sym (inner-map rs (s .opens))) ∙ ap (λ (k : History). readingSize (inner (k .opens))) (m .read)
+      sym (read-size rs o) ∙ ap (λ (r : Reading). readingSize r) (sym (inner-map rs (s .opens))) ∙ ap (λ (k : History). readingSize (innermostReading (k .opens))) (m .read)
 
   pub mirrors-acyclic : Acyclic (graphOf (s .closed))
   unfolding Ranked
@@ -141,7 +141,7 @@ module _ {s : Session} {h : History} (m : Mirrors s h) where
   added = record { limits = s .limits; opens = outer (s .opens); closed = s .closed ++ (o ∷ []) }
 
   abbrev addedTo : History → History
-  addedTo k = record { limits = k .limits; opens = others (k .opens); closed = k .closed ++ (inner (k .opens) ∷ []) }
+  addedTo k = record { limits = k .limits; opens = others (k .opens); closed = k .closed ++ (innermostReading (k .opens) ∷ []) }
 
   added-readings : readings (added .closed) ≡ rs ++ (readObject rs o ∷ [])
   unfolding readings

@@ -61,27 +61,27 @@ begun m = record { limits = m; opens = []; closed = [] }
 abbrev pub keepOpens : List Reading → History → History
 keepOpens rs h = record { limits = h .limits; opens = rs; closed = h .closed }
 
-abbrev pub inner : List Reading → Reading
-inner [] = bytes []
-inner (r ∷ rs) = r
+abbrev pub innermostReading : List Reading → Reading
+innermostReading [] = bytes []
+innermostReading (r ∷ rs) = r
 
 abbrev pub others : List Reading → List Reading
 others [] = []
 others (r ∷ rs) = rs
 
 abbrev pub onInner : (Reading → Reading) → History → History
-onInner f h = keepOpens (f (inner (h .opens)) ∷ others (h .opens)) h
+onInner f h = keepOpens (f (innermostReading (h .opens)) ∷ others (h .opens)) h
 
 -- the id of the closed reading equal to the innermost open one; the next id where none is
 abbrev pub idOf : History → ℕ
-idOf h = firstThat (sameReading (inner (h .opens))) (h .closed)
+idOf h = firstThat (sameReading (innermostReading (h .opens))) (h .closed)
 
 abbrev pub closes : History → History
 closes h =
     record {
       limits = h .limits;
       opens = others (h .opens);
-      closed = pick (ltb (idOf h) (length (h .closed))) (h .closed) (h .closed ++ (inner (h .opens) ∷ []));
+      closed = pick (ltb (idOf h) (length (h .closed))) (h .closed) (h .closed ++ (innermostReading (h .opens) ∷ []));
     }
 
 -- ---- each call but pack: judged by the table, with the history's own counts; 12 never applies
@@ -91,7 +91,7 @@ judged n (startCall m records) h = judgeStart m (n .records m) records
 judged n openCall h = judgeOpen true (counts h)
 judged n (putCall vs) h = judgePut true (h .limits) (counts h) (length vs)
 judged n (linkCall w id) h = judgeLink true (h .limits) (counts h) w id
-judged n closeCall h = judgeClose true (h .limits) (counts h) (readingSize (inner (h .opens))) (idOf h)
+judged n closeCall h = judgeClose true (h .limits) (counts h) (readingSize (innermostReading (h .opens))) (idOf h)
 judged n dropCall h = judgeDrop true (counts h)
 judged n tallyCall h = judgeTally true
 

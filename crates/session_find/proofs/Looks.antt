@@ -23,7 +23,7 @@ use Rattle.layout.specs.declared.span.Span.{Span}
 use Rattle.layout.specs.Spans.{Within, Lies}
 use Rattle.layout.proofs.Facts.{size-known}
 use Rattle.layout.proofs.Links.{link-words}
-use Rattle.steps.specs.Steps.{inner, twinIn}
+use Rattle.steps.specs.Steps.{innermostIn, twinIn}
 use Rattle.steps.proofs.Innermost.{inner-is}
 use Rattle.steps.proofs.Tallies.{length-closed, closed-at}
 use Rattle.session_find.specs.declared.Runs.{Runs}
@@ -34,7 +34,7 @@ use Rattle.session_find.specs.Runs.{runsOf, Matched, sameRun, HasRuns, G
 module _ (b w : List ℕ) where
   -- the answer, once the ids below i are looked at
   unfoldable pub twinFrom : ℕ → ℕ
-  twinFrom i = i + firstThat (sameObject (inner b w)) (drop i (closedTo b w (closedCount w)))
+  twinFrom i = i + firstThat (sameObject (innermostIn b w)) (drop i (closedTo b w (closedCount w)))
 
   twin-first : twinIn b w ≡ twinFrom 0
   unfolding twinIn twinFrom
@@ -51,11 +51,11 @@ module _ (b w : List ℕ) where
           let l : i < length (closedTo b w (closedCount w)) = omega (arith, length-closed b w (closedCount w)) in
           rw (add-one i, drop-cons (closedTo b w (closedCount w)) i noObject l, closed-at b w (closedCount w) i h)
 
-      twin-here : sameObject (inner b w) (closedAt b w i) ≡ true → twinFrom i ≡ i
+      twin-here : sameObject (innermostIn b w) (closedAt b w i) ≡ true → twinFrom i ≡ i
       unfolding twinFrom firstThat
       twin-here e = rw (closed-left, e, add-zero)
 
-      twin-next : sameObject (inner b w) (closedAt b w i) ≡ false → twinFrom i ≡ twinFrom (i + 1)
+      twin-next : sameObject (innermostIn b w) (closedAt b w i) ≡ false → twinFrom i ≡ twinFrom (i + 1)
       unfolding twinFrom firstThat
       twin-next e = rw (closed-left, e) (omega arith)
 
@@ -143,10 +143,10 @@ module _ {b w : List ℕ} {closed i : ℕ} (k : Look b w closed i) where
   look-none h = sym (k .twinIs ∙ twin-none b w i (omega arith))
 
   module _ (h : i < closed) where
-    pub look-here : sameObject (inner b w) (closedAt b w i) ≡ true → i ≡ twinIn b w
+    pub look-here : sameObject (innermostIn b w) (closedAt b w i) ≡ true → i ≡ twinIn b w
     look-here e = sym (k .twinIs ∙ twin-here b w i (omega arith) e)
 
-    pub look-next : sameObject (inner b w) (closedAt b w i) ≡ false → Look b w closed (i + 1)
+    pub look-next : sameObject (innermostIn b w) (closedAt b w i) ≡ false → Look b w closed (i + 1)
     look-next e = record { closedIs = k .closedIs; within = omega arith; twinIs = k .twinIs ∙ twin-next b w i (omega arith) e }
 
 -- ---- run by run
@@ -181,11 +181,11 @@ module _ (l : List ℕ) (a n c m i : ℕ) (h : a + n ≤ length l) (k : c + m �
 
 -- the first j bytes and the first k words looked at
 pub record Pair (b w : List ℕ) (i : ℕ) (s t : Runs) (j k : ℕ) : Type 0 where
-  pub own : HasRuns b w (inner b w) s
+  pub own : HasRuns b w (innermostIn b w) s
   pub other : HasRuns b w (closedAt b w i) t
-  pub sameIs : sameObject (inner b w) (closedAt b w i) ≡ (left b (s .from) (s .size) (t .from) (t .size) j && left w (s .at) (s .words) (t .at) (t .words) k)
+  pub sameIs : sameObject (innermostIn b w) (closedAt b w i) ≡ (left b (s .from) (s .size) (t .from) (t .size) j && left w (s .at) (s .words) (t .at) (t .words) k)
 
-pub pair-first : {b w : List ℕ} {i : ℕ} {s t : Runs} → HasRuns b w (inner b w) s → HasRuns b w (closedAt b w i) t → Pair b w i s t 0 0
+pub pair-first : {b w : List ℕ} {i : ℕ} {s t : Runs} → HasRuns b w (innermostIn b w) s → HasRuns b w (closedAt b w i) t → Pair b w i s t 0 0
 unfolding left
 pair-first x y = record { own = x; other = y; sameIs = same-runs x y }
 
@@ -197,7 +197,7 @@ module _ {b w : List ℕ} {i : ℕ} {s t : Runs} {j k : ℕ} (x : Pair b w i s t
     pub pair-bytes : r ≡ true → Pair b w i s t e k
     pair-bytes z = record { own = x .own; other = x .other; sameIs = x .sameIs ∙ rw (bytes-run, z) }
 
-    pub bytes-differ : r ≡ false → sameObject (inner b w) (closedAt b w i) ≡ false
+    pub bytes-differ : r ≡ false → sameObject (innermostIn b w) (closedAt b w i) ≡ false
     bytes-differ z = x .sameIs ∙ rw (bytes-run, z)
 
   module _ {e : ℕ} (h : k ≤ e) (fits : e ≤ s .words) {r : Bool} (run : r ≡ sameRun w (s .at) (t .at) k e) where
@@ -207,10 +207,10 @@ module _ {b w : List ℕ} {i : ℕ} {s t : Runs} {j k : ℕ} (x : Pair b w i s t
     pub pair-words : r ≡ true → Pair b w i s t j e
     pair-words z = record { own = x .own; other = x .other; sameIs = x .sameIs ∙ rw (words-run, z) }
 
-    pub words-differ : r ≡ false → sameObject (inner b w) (closedAt b w i) ≡ false
+    pub words-differ : r ≡ false → sameObject (innermostIn b w) (closedAt b w i) ≡ false
     words-differ z = x .sameIs ∙ rw (words-run, z, and-false)
 
-  pub pair-same : s .size ≤ j → s .words ≤ k → sameObject (inner b w) (closedAt b w i) ≡ true
+  pub pair-same : s .size ≤ j → s .words ≤ k → sameObject (innermostIn b w) (closedAt b w i) ≡ true
   pair-same h e =
       x .sameIs
       ∙ rw (

@@ -10,7 +10,7 @@ use Rattle.model.specs.Object.{Object}
 use Rattle.layout.specs.Words.{objectLimit, closedCount, storeLength, linksBase, linkWords, linksOf}
 use Rattle.layout.specs.Known.{Tested}
 use Rattle.layout.specs.declared.span.Span.{Span}
-use Rattle.steps.specs.Steps.{inner}
+use Rattle.steps.specs.Steps.{innermostIn}
 use Rattle.session_find.specs.declared.Runs.{Runs}
 
 -- of an object that lies there
@@ -40,4 +40,4 @@ pub record Ground (b w : List ℕ) (objects closed : ℕ) (own : Runs) : Type 0 
   pub size : storeLength w ≡ length b
   pub objectsIs : objects ≡ objectLimit w
   pub closedIs : closed ≡ closedCount w
-  pub innerRuns : HasRuns b w (inner b w) own
+  pub innerRuns : HasRuns b w (innermostIn b w) own

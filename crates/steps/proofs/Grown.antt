@@ -21,7 +21,7 @@ use Rattle.layout.specs.Fields.{objectOk}
 use Rattle.layout.specs.Decode.{linksFrom, decode}
 use Rattle.layout.specs.Known.{Sound}
 use Rattle.layout.proofs.Links.{linksOf-words, linksOf-append, link-words}
-use Rattle.steps.specs.Steps.{tallyIn, under, linkUnder, inner, madeLink, linkWordsOf}
+use Rattle.steps.specs.Steps.{tallyIn, under, linkUnder, innermostIn, madeLink, linkWordsOf}
 use Rattle.steps.proofs.Fields.{ok-put, ok-link}
 use Rattle.steps.proofs.Tallies.{tally-same}
 use Rattle.steps.proofs.Innermost.{innermost-decode, outer-decode, inner-is, inner-size, inner-right, inner-edges}
@@ -40,9 +40,9 @@ record Grows (f : Object → Object) (t l : ℕ) (b w b' w' : List ℕ) : Type 0
   apart : t ≤ low w
   linkApart : l ≤ linkLow w
   gap : (i : ℕ) → t ≤ i → i < low w → getD b' i 0 ≡ 0
-  bytes : part (under w) t b' ≡ f (inner b w) .bytes
-  links : linksFrom w' (linkUnder w) l ≡ f (inner b w) .links
-  right : objectOk (closedCount w) (f (inner b w)) ≡ true
+  bytes : part (under w) t b' ≡ f (innermostIn b w) .bytes
+  links : linksFrom w' (linkUnder w) l ≡ f (innermostIn b w) .links
+  right : objectOk (closedCount w) (f (innermostIn b w)) ≡ true
 
 module _ {b w : List ℕ} (s : Sound b w) (h : 0 < openDepth w) where
   grows-leaves : {t l : ℕ} {b' w' : List ℕ} (f : Object → Object) → Grows f t l b w b' w' → (y : Tally)
@@ -56,7 +56,7 @@ module _ {b w : List ℕ} (s : Sound b w) (h : 0 < openDepth w) where
       let p : endsAt + d + 1 ≡ endsAt + openDepth w = omega arith in
       let q : linkEndsAt + d + 1 ≡ linkEndsAt + openDepth w = omega arith in
       let opens =
-      more-opens (f (inner b w)) (kept-opens s (g .kept) (omega (arith, g .count))) (rw p (g .end)) (rw q (g .linkEnd)) (omega (arith, g .rise)) (omega (arith, g .linkRise))
+      more-opens (f (innermostIn b w)) (kept-opens s (g .kept) (omega (arith, g .count))) (rw p (g .end)) (rw q (g .linkEnd)) (omega (arith, g .rise)) (omega (arith, g .linkRise))
       (g .bytes) (g .links) (rw (g .count) (g .right)) in
       subst (λ a. Leaves b w b' w' y a) (sym (ap₂ (λ (o : Object) (os : List Object). withOpens (f o ∷ os) (decode b w)) (innermost-decode b w h) (outer-decode b w)))
       (sides-leave s (g .kept) opens (kept-closed s (g .kept)) (g .depth ∙ n) (g .count) (omega arith) (omega arith) (g .apart) (g .linkApart) (g .gap) y (e ∙ tally-same refl refl refl n))
@@ -96,7 +96,7 @@ module _ {b w : List ℕ} (vs : List ℕ) (s : Sound b w) (h : 0 < openDepth w) 
         links =
             links-kept s kept (linkUnder w) (linkTop w) (omega arith) (λ i a c. put-others i (omega arith))
             ∙ ap (λ (o : Object). o .links) (sym (inner-is b w h));
-        right = ok-put (closedCount w) (inner b w) (inner-right b w h s) vs;
+        right = ok-put (closedCount w) (innermostIn b w) (inner-right b w h s) vs;
       }
 
   pub put-leaves : Leaves b w putBytes putWords (grown (length vs) 0 (tallyIn b w)) (onInnermost (withBytes vs) (decode b w))
@@ -136,7 +136,7 @@ module _ {b w : List ℕ} (width id : ℕ) (s : Sound b w) (h : 0 < openDepth w)
       kept-others s (omega arith) (omega arith) refl (λ i k. refl) (λ i k. refl) link-words-kept
       (λ j o. link-others j (λ e. o .end (omega arith)) (λ e. o .linkEnd (omega arith)) (λ k. o .link (omega arith)))
 
-  link-bytes : part (under w) (top w + width) b ≡ inner b w .bytes ++ replicate width 0
+  link-bytes : part (under w) (top w + width) b ≡ innermostIn b w .bytes ++ replicate width 0
   link-bytes =
       let u = inner-edges b w h s in
       let n : top w + width - top w ≡ width = omega arith in
@@ -144,7 +144,7 @@ module _ {b w : List ℕ} (width id : ℕ) (s : Sound b w) (h : 0 < openDepth w)
       ∙ ap₂ (λ (x y : List ℕ). x ++ y) (ap (λ (o : Object). o .bytes) (sym (inner-is b w h)))
       (part-zeros (top w) (top w + width) b (omega arith) (λ i a c. zeros-in (top w) (low w) b (s .gap) i a (omega arith)) ∙ ap (λ (k : ℕ). replicate k 0) n)
 
-  link-links : linksFrom linkedWords (linkUnder w) (linkTop w + 1) ≡ inner b w .links ++ (newLink width id (inner b w) ∷ [])
+  link-links : linksFrom linkedWords (linkUnder w) (linkTop w + 1) ≡ innermostIn b w .links ++ (newLink width id (innermostIn b w) ∷ [])
   link-links =
       let u = inner-edges b w h s in
       let a : ℕ = linksAt w + linkUnder w * linkWords in
@@ -181,7 +181,7 @@ module _ {b w : List ℕ} (width id : ℕ) (s : Sound b w) (h : 0 < openDepth w)
         gap = λ i a c. zeros-in (top w) (low w) b (s .gap) i (omega arith) c;
         bytes = link-bytes;
         links = link-links;
-        right = ok-link (closedCount w) (inner b w) (inner-right b w h s) width id wide known;
+        right = ok-link (closedCount w) (innermostIn b w) (inner-right b w h s) width id wide known;
       }
 
   pub link-leaves : widthOk width ≡ true → id < closedCount w → Leaves b w b linkedWords (grown width 1 (tallyIn b w)) (onInnermost (withLink width id) (decode b w))

@@ -15,7 +15,7 @@ use Rattle.layout.specs.Decode.{linksFrom, openAt, opensTo, closedTo, decode}
 use Rattle.layout.specs.Sound.{sound}
 use Rattle.layout.specs.Known.{Sound}
 use Rattle.layout.proofs.Facts.{sound-facts, sound-tables}
-use Rattle.steps.specs.Steps.{under, linkUnder, inner, twinIn}
+use Rattle.steps.specs.Steps.{under, linkUnder, innermostIn, twinIn}
 use Rattle.steps.proofs.Tables.{forAll-at, rising-last}
 use Rattle.steps.proofs.Tallies.{length-closed}
 
@@ -41,11 +41,11 @@ module _ (b w : List ℕ) where
 
   pub twin-most : twinIn b w ≤ closedCount w
   unfolding twinIn
-  twin-most = omega (arith, first-most (sameObject (inner b w)) (closedTo b w (closedCount w)), length-closed b w (closedCount w))
+  twin-most = omega (arith, first-most (sameObject (innermostIn b w)) (closedTo b w (closedCount w)), length-closed b w (closedCount w))
 
   -- where something is open
   module _ (h : 0 < openDepth w) where
-    pub innermost-decode : innermost (decode b w .opens) ≡ inner b w
+    pub innermost-decode : innermost (decode b w .opens) ≡ innermostIn b w
     unfolding decode
     innermost-decode = opens-innermost (openDepth w) h
 
@@ -54,19 +54,19 @@ module _ (b w : List ℕ) where
     twin-decode = ap (λ (o : Object). firstThat (sameObject o) (closedTo b w (closedCount w))) (sym innermost-decode)
 
     -- by its edges
-    pub inner-is : inner b w ≡ record { bytes = part (under w) (top w) b; links = linksFrom w (linkUnder w) (linkTop w) }
+    pub inner-is : innermostIn b w ≡ record { bytes = part (under w) (top w) b; links = linksFrom w (linkUnder w) (linkTop w) }
     inner-is =
         let e : endsAt + (openDepth w - 1) + 1 ≡ endsAt + openDepth w = omega arith in
         let f : linkEndsAt + (openDepth w - 1) + 1 ≡ linkEndsAt + openDepth w = omega arith in
         rw (e, f)
 
-    pub inner-size : Sound b w → top w - under w ≡ sizeOf (inner b w)
+    pub inner-size : Sound b w → top w - under w ≡ sizeOf (innermostIn b w)
     inner-size s = sym (ap sizeOf inner-is ∙ length-part (under w) (top w) b (omega arith))
 
     pub size-decode : sound b w ≡ true → top w - under w ≡ sizeOf (innermost (decode b w .opens))
     size-decode s = inner-size (sound-facts b w s) ∙ ap sizeOf (sym innermost-decode)
 
-    pub inner-right : Sound b w → objectOk (closedCount w) (inner b w) ≡ true
+    pub inner-right : Sound b w → objectOk (closedCount w) (innermostIn b w) ≡ true
     inner-right s = forAll-at (λ d. objectOk (closedCount w) (openAt b w d)) (openDepth w) (s .opens) (openDepth w - 1) (omega arith)
 
     pub inner-edges : Sound b w → Edges w

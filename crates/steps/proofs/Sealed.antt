@@ -15,7 +15,7 @@ use Rattle.layout.specs.Words.{objectLimitAt, closedCountAt, openDepthAt, objec
 use Rattle.layout.specs.Decode.{linksFrom, decode}
 use Rattle.layout.specs.Known.{Sound}
 use Rattle.layout.proofs.Links.{link-words}
-use Rattle.steps.specs.Steps.{tallyIn, under, linkUnder, inner, newLow, newLinkLow, sealedBytes, sealedWords}
+use Rattle.steps.specs.Steps.{tallyIn, under, linkUnder, innermostIn, newLow, newLinkLow, sealedBytes, sealedWords}
 use Rattle.steps.proofs.Tallies.{tally-same}
 use Rattle.steps.proofs.Innermost.{Edges, innermost-decode, outer-decode, inner-is, inner-right, inner-edges}
 use Rattle.steps.proofs.Frames.{ObjectsKept, links-at}
@@ -57,7 +57,7 @@ module _ {b w : List ℕ} (s : Sound b w) (h : 0 < openDepth w) (some : under w 
   above : (i : ℕ) → newLow w ≤ i → getD (sealedBytes b w) i 0 ≡ getD moved i 0
   above i a = cleared-after (under w) (newLow w - under w) moved zeros-fit i (omega arith)
 
-  sealed-bytes : part (newLow w) (low w) (sealedBytes b w) ≡ inner b w .bytes
+  sealed-bytes : part (newLow w) (low w) (sealedBytes b w) ≡ innermostIn b w .bytes
   sealed-bytes =
       part-same (newLow w) (low w) moved (sealedBytes b w) (omega (arith, length-up)) (bytes-kept ∙ sym length-up) (λ i a c. above i a)
       ∙ rw to-low at (part-moved (under w) (top w) (newLow w) b (omega arith) up)
@@ -152,7 +152,7 @@ module _ {b w : List ℕ} (s : Sound b w) (h : 0 < openDepth w) (some : under w 
         linkBack = λ i k. others i (omega arith);
       }
 
-  sealed-links : linksFrom (sealedWords w) (newLinkLow w) (linkLow w) ≡ inner b w .links
+  sealed-links : linksFrom (sealedWords w) (newLinkLow w) (linkLow w) ≡ innermostIn b w .links
   sealed-links =
       let n = length-words-up in
       links-at s kept (newLinkLow w) (linkLow w) (s .linkInside)
@@ -173,7 +173,7 @@ module _ {b w : List ℕ} (s : Sound b w) (h : 0 < openDepth w) (some : under w 
       let e = edges in
       let f = count in
       let closed =
-      more-closed (inner b w) (kept-closed s kept) begin (rw (kept .objects) linkBegin) (omega arith) (omega arith) sealed-bytes sealed-links (inner-right b w h s) in
+      more-closed (innermostIn b w) (kept-closed s kept) begin (rw (kept .objects) linkBegin) (omega arith) (omega arith) sealed-bytes sealed-links (inner-right b w h s) in
       subst₂ (λ os o. Leaves b w (sealedBytes b w) (sealedWords w) (added (tallyIn b w)) (closes os o)) (sym (outer-decode b w)) (sym (innermost-decode b w h))
       (sides-leave s kept (kept-opens s kept (omega arith)) closed depth count (omega arith) (omega arith) (omega arith) (omega arith)
       (λ i a c. cleared-in (under w) (newLow w - under w) moved zeros-fit i a (omega arith))

@@ -90,8 +90,8 @@ under w = innerSpan w .from
 abbrev pub linkUnder : List ℕ → ℕ
 linkUnder w = innerSpan w .first
 
-abbrev pub inner : List ℕ → List ℕ → Object
-inner b w = openAt b w (openDepth w - 1)
+abbrev pub innermostIn : List ℕ → List ℕ → Object
+innermostIn b w = openAt b w (openDepth w - 1)
 
 -- ---- link: its field is zero bytes, which stand there already; its record behind the open ones
 
@@ -146,7 +146,7 @@ settleClose (refused why) b w out = closing (Closing.Refused why (beside why (ta
 
 -- the lowest id of an equal closed object; the count of closed ones where none is
 unfoldable pub twinIn : List ℕ → List ℕ → ℕ
-twinIn b w = firstThat (sameObject (inner b w)) (closedTo b w (closedCount w))
+twinIn b w = firstThat (sameObject (innermostIn b w)) (closedTo b w (closedCount w))
 
 -- a duplicate is dropped
 abbrev pub closeTwin : List ℕ → List ℕ → CloseOut
