@@ -8,7 +8,7 @@ use Rattle.answer.specs.declared.Refusal.the-variants as Refusal
 abbrev pub number : Refusal → ℕ
 number Refusal.NothingOpen = 1
 number Refusal.DepthFull = 2
-number Refusal.BadWidth = 3
+number Refusal.BadField = 3
 number Refusal.NotClosed = 4
 number Refusal.EmptyObject = 5
 number Refusal.StoreFull = 6
@@ -27,7 +27,7 @@ noOverflow = record { parent = record { 0 = 0 }; field = 0; needed = 0 }
 abbrev pub named : Refusal → Overflow
 named Refusal.NothingOpen = noOverflow
 named Refusal.DepthFull = noOverflow
-named Refusal.BadWidth = noOverflow
+named Refusal.BadField = noOverflow
 named Refusal.NotClosed = noOverflow
 named Refusal.EmptyObject = noOverflow
 named Refusal.StoreFull = noOverflow
@@ -46,7 +46,7 @@ noTally = record { bytes = 0; links = 0; objects = 0; depth = 0 }
 abbrev pub beside : Refusal → Tally → Tally
 beside Refusal.NothingOpen t = t
 beside Refusal.DepthFull t = t
-beside Refusal.BadWidth t = t
+beside Refusal.BadField t = t
 beside Refusal.NotClosed t = t
 beside Refusal.EmptyObject t = t
 beside Refusal.StoreFull t = t

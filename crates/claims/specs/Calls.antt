@@ -15,7 +15,7 @@ use Rattle.layout.specs.Words.{objectLimit, linkLimit, need, limitsIn, top}
 use Rattle.work.specs.Areas.{workNeed}
 use Rattle.layout.specs.Decode.{decode}
 use Rattle.layout.specs.Sound.{sound}
-use Rattle.steps.specs.Steps.{tallyIn, limitsOf, under, twinIn}
+use Rattle.steps.specs.Steps.{tallyIn, limitsOf, under, madeLink, twinIn}
 use Rattle.steps.specs.Runs.{StoreCall, start, open', put, link, close, drop as dropCall, tally, Stores, LentCall, onStores, pack, LentLeft}
 
 -- a call's tests, in their order
@@ -30,7 +30,7 @@ module _ (s : Stores) where
   testsOf (onStores (start objects links)) = startTests (limitsOf objects links b) (need objects links) (length w)
   testsOf (onStores open') = openTests (sound b w) (tallyIn b w)
   testsOf (onStores (put vs)) = putTests (sound b w) (limitsIn w) (tallyIn b w) (length vs)
-  testsOf (onStores (link width id)) = linkTests (sound b w) (limitsIn w) (tallyIn b w) width id
+  testsOf (onStores (link width id inner)) = linkTests (sound b w) (limitsIn w) (tallyIn b w) (madeLink width id inner w .slot) id
   testsOf (onStores close) = closeTests (sound b w) (limitsIn w) (tallyIn b w) (top w - under w) (twinIn b w)
   testsOf (onStores dropCall) = dropTests (sound b w) (tallyIn b w)
   testsOf (onStores tally) = tallyTests (sound b w)

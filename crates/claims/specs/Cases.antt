@@ -24,7 +24,7 @@ abbrev onStore : SessionCall → StoreCall
 onStore (startCall m records) = start (m .objects) (m .links)
 onStore openCall = open'
 onStore (putCall vs) = put vs
-onStore (linkCall w id) = link w id
+onStore (linkCall w id inner) = link w id inner
 onStore closeCall = close
 onStore dropCall = drop
 onStore tallyCall = tally

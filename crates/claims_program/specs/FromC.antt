@@ -30,7 +30,7 @@ pub data CalledC : Stores → Made → Type 0 where
   c-put : (f : Returned 3 put-kinds.ps put-kinds.r put-reads.Post)
       → CalledC (stores (now (f .args .0)) (now (f .args .1 .0))) (made (put (now (f .args .1 .1 .0))) (left (toldIn (f .result)) (now (f .exit .0)) (now (f .exit .1 .0))))
   c-link : (f : Returned 2 link-kinds.ps link-kinds.r link-reads.Post)
-      → CalledC (stores (now (f .args .0)) (now (f .args .1 .0))) (made (link (f .args .1 .1 .0) (f .args .1 .1 .1 .0)) (left (toldIn (f .result)) (now (f .exit .0)) (now (f .exit .1 .0))))
+      → CalledC (stores (now (f .args .0)) (now (f .args .1 .0))) (made (link (f .args .1 .1 .0) (f .args .1 .1 .1 .0) (f .args .1 .1 .1 .1 .0)) (left (toldIn (f .result)) (now (f .exit .0)) (now (f .exit .1 .0))))
   c-close : (f : Returned 2 close-kinds.ps close-kinds.r close-reads.Post)
       → CalledC (stores (now (f .args .0)) (now (f .args .1 .0))) (made close (left (toldIn (f .result)) (now (f .exit .0)) (now (f .exit .1 .0))))
   c-drop : (f : Returned 2 drop-kinds.ps drop-kinds.r drop-reads.Post)

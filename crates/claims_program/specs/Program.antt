@@ -30,7 +30,7 @@ pub data Called : Stores → Made → Type 0 where
   by-put : (f : Returned 3 put-kinds.ps put-kinds.r put-reads.Post)
       → Called (stores (now (f .args .0)) (now (f .args .1 .0))) (made (put (now (f .args .1 .1 .0))) (left (toldBy (f .result)) (now (f .exit .0)) (now (f .exit .1 .0))))
   by-link : (f : Returned 2 link-kinds.ps link-kinds.r link-reads.Post)
-      → Called (stores (now (f .args .0)) (now (f .args .1 .0))) (made (link (f .args .1 .1 .0) (f .args .1 .1 .1 .0 .0)) (left (toldBy (f .result)) (now (f .args .0)) (now (f .exit .1 .0))))
+      → Called (stores (now (f .args .0)) (now (f .args .1 .0))) (made (link (f .args .1 .1 .0) (f .args .1 .1 .1 .0 .0) (f .args .1 .1 .1 .1 .0)) (left (toldBy (f .result)) (now (f .args .0)) (now (f .exit .1 .0))))
   by-close : (f : Returned 2 close-kinds.ps close-kinds.r close-reads.Post)
       → Called (stores (now (f .args .0)) (now (f .args .1 .0))) (made close (left (toldByClose (f .result)) (now (f .exit .0)) (now (f .exit .1 .0))))
   by-drop : (f : Returned 2 drop-kinds.ps drop-kinds.r drop-reads.Post)

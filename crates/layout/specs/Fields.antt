@@ -5,13 +5,13 @@ use mathlib.Core.Bool.{Bool, true, _&&_}
 use lib.ListN.{length}
 use lib.Dec.{leb, ltb}
 use Rattle.lists.specs.Lists.{part, holds, zeros}
-use Rattle.model.specs.Object.{Link, Object, widthOk}
+use Rattle.model.specs.Object.{Link, Object, slotOk}
 
--- a field at or past `from`, of a width that it may have, inside the bytes, to a child below `kids`, its bytes zero
+-- a field at or past `from`, of a width and an inner start that it may have, inside the bytes, to a child below `kids`, its bytes zero
 unfoldable pub fieldTests : ℕ → ℕ → List ℕ → Link → List Bool
 fieldTests kids from bs l =
     leb from (l .slot .at)
-    ∷ widthOk (l .slot .width)
+    ∷ slotOk (l .slot)
     ∷ leb (l .slot .at + l .slot .width) (length bs)
     ∷ ltb (l .child) kids
     ∷ zeros (part (l .slot .at) (l .slot .at + l .slot .width) bs)

@@ -1,4 +1,4 @@
--- docs/RULES.md, section 9: the twelve cases marked P and two more, on the abstract session, by one claim over a list of them; the ends of 3.1 and 3.2; and 6.1, for link and pack.
+-- docs/RULES.md, section 9: the fifteen cases marked P and two more, on the abstract session, by one claim over a list of them; the ends of 3.1 and 3.2; and 6.1, for link and pack.
 use Prim.Native.Nat.{ℕ}
 use mathlib.Core.List.{List, [], _∷_, _++_}
 use mathlib.Core.Bool.{Bool, true, false, _&&_}
@@ -6,6 +6,7 @@ use lib.Dec.{eqb}
 use Rattle.lists.specs.Lists.{sameList}
 use Rattle.answer.specs.Number.{noOverflow}
 use Rattle.answer.specs.declared.tally.Tally.{Tally}
+use Rattle.model.specs.Object.{newSlot}
 use Rattle.model.specs.Table.{overflow}
 use Rattle.model.specs.Judge.{Limits, Verdict, judgeStart, judgeLink, judgePack}
 use Rattle.model.specs.Session.{Needs, Session, started, tallyOf, SessionCall, startCall, openCall, putCall, linkCall, closeCall, dropCall, tallyCall, step, pack, Call, sessionCall, packCall, afterCall}
@@ -34,7 +35,7 @@ abbrev pub idsIn : SessionCall → ℕ → List ℕ
 idsIn (startCall m records) i = []
 idsIn openCall i = []
 idsIn (putCall vs) i = []
-idsIn (linkCall w id) i = []
+idsIn (linkCall w id from) i = []
 idsIn closeCall i = i ∷ []
 idsIn dropCall i = []
 idsIn tallyCall i = []
@@ -76,7 +77,11 @@ abbrev puts : List ℕ → Call
 puts vs = sessionCall (putCall vs)
 
 abbrev links : ℕ → ℕ → Call
-links w id = sessionCall (linkCall w id)
+links w id = sessionCall (linkCall w id 0)
+
+-- with an inner start
+abbrev linksFrom : ℕ → ℕ → ℕ → Call
+linksFrom w id inner = sessionCall (linkCall w id inner)
 
 abbrev closes : Call
 closes = sessionCall closeCall
@@ -90,6 +95,9 @@ tallies = sessionCall tallyCall
 -- an object of these bytes and no link
 abbrev leaf : List ℕ → List Call
 leaf vs = opens ∷ puts vs ∷ closes ∷ []
+
+abbrev header : List ℕ
+header = 0x00 ∷ 0x01 ∷ 0x00 ∷ 0x02 ∷ []
 
 -- HarfBuzz's graph, up to the last link
 abbrev four : List Call
@@ -215,6 +223,35 @@ cases =
       counts = 6 ∷ 2 ∷ 2 ∷ 0 ∷ [];
       table = 0x00 ∷ 0x00 ∷ 0x05 ∷ 0x00 ∷ 0x05 ∷ 0x78 ∷ [];
     }
+    -- offsets that count from behind a header, and one that does not
+    ∷ record {
+      limits = limitsOf 8 8 64;
+      calls = leaf (0x78 ∷ []) ++ (opens ∷ puts header ∷ linksFrom 2 0 4 ∷ closes ∷ packCall 1 64 0 ∷ []);
+      numbers = 0 ∷ 0 ∷ 0 ∷ 0 ∷ 0 ∷ 0 ∷ 0 ∷ 0 ∷ [];
+      ids = 0 ∷ 1 ∷ [];
+      counts = 7 ∷ 1 ∷ 2 ∷ 0 ∷ [];
+      table = 0x00 ∷ 0x01 ∷ 0x00 ∷ 0x02 ∷ 0x00 ∷ 0x02 ∷ 0x78 ∷ [];
+    }
+    ∷ record {
+      limits = limitsOf 8 8 64;
+      calls = leaf (0x78 ∷ []) ++ (opens ∷ puts header ∷ linksFrom 2 0 4 ∷ links 2 0 ∷ closes ∷ packCall 1 64 0 ∷ []);
+      numbers = 0 ∷ 0 ∷ 0 ∷ 0 ∷ 0 ∷ 0 ∷ 0 ∷ 0 ∷ 0 ∷ [];
+      ids = 0 ∷ 1 ∷ [];
+      counts = 9 ∷ 2 ∷ 2 ∷ 0 ∷ [];
+      table = 0x00 ∷ 0x01 ∷ 0x00 ∷ 0x02 ∷ 0x00 ∷ 0x04 ∷ 0x00 ∷ 0x08 ∷ 0x78 ∷ [];
+    }
+    -- an inner start past the field is refused, one at the field is not; objects that differ in one alone are two
+    ∷ record {
+      limits = limitsOf 8 8 64;
+      calls =
+          leaf (0x78 ∷ [])
+          ++ (opens ∷ puts header ∷ linksFrom 2 0 5 ∷ linksFrom 2 0 4 ∷ closes ∷ [])
+          ++ (opens ∷ puts header ∷ linksFrom 2 0 3 ∷ closes ∷ opens ∷ puts header ∷ linksFrom 2 0 4 ∷ closes ∷ []);
+      numbers = 0 ∷ 0 ∷ 0 ∷ 0 ∷ 0 ∷ 3 ∷ 0 ∷ 0 ∷ 0 ∷ 0 ∷ 0 ∷ 0 ∷ 0 ∷ 0 ∷ 0 ∷ 0 ∷ [];
+      ids = 0 ∷ 1 ∷ 2 ∷ 1 ∷ [];
+      counts = 13 ∷ 2 ∷ 3 ∷ 0 ∷ [];
+      table = [];
+    }
     -- no other width
     ∷ record {
       limits = limitsOf 8 8 64;
@@ -247,12 +284,12 @@ holding depth = record { bytes = 1; links = 0; objects = 1; depth = depth }
 
 abbrev pub several : List (List Verdict)
 several =
-    (judgeLink false (limitsOf 1 0 1) (holding 0) 5 1
-    ∷ judgeLink true (limitsOf 1 0 1) (holding 0) 5 1
-    ∷ judgeLink true (limitsOf 1 0 1) (holding 1) 5 1
-    ∷ judgeLink true (limitsOf 1 0 1) (holding 1) 2 1
-    ∷ judgeLink true (limitsOf 1 0 1) (holding 1) 2 0
-    ∷ judgeLink true (limitsOf 1 1 1) (holding 1) 2 0
+    (judgeLink false (limitsOf 1 0 1) (holding 0) (newSlot 0 5 0) 1
+    ∷ judgeLink true (limitsOf 1 0 1) (holding 0) (newSlot 0 5 0) 1
+    ∷ judgeLink true (limitsOf 1 0 1) (holding 1) (newSlot 0 5 0) 1
+    ∷ judgeLink true (limitsOf 1 0 1) (holding 1) (newSlot 0 2 0) 1
+    ∷ judgeLink true (limitsOf 1 0 1) (holding 1) (newSlot 0 2 0) 0
+    ∷ judgeLink true (limitsOf 1 1 1) (holding 1) (newSlot 0 2 0) 0
     ∷ [])
     ∷ (judgePack false (holding 1) 1 0 1 0 1 (overflow noOverflow)
     ∷ judgePack true (holding 1) 1 0 1 0 1 (overflow noOverflow)

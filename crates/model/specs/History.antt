@@ -8,7 +8,7 @@ use lib.Dec.{leb, ltb}
 use Rattle.lists.specs.Lists.{pick, total, firstThat}
 use Rattle.answer.specs.Number.{noTally}
 use Rattle.answer.specs.declared.tally.Tally.{Tally}
-use Rattle.model.specs.Object.{Slot}
+use Rattle.model.specs.Object.{Slot, newSlot}
 use Rattle.model.specs.Reading.{Reading, bytes, field, readingSize, fieldCount, readingAt, readObject, readings, sameReading, Shows, below, different}
 use Rattle.model.specs.Judge.{Limits, Verdict, accepted, refused, judgeStart, judgeOpen, judgePut, judgeLink, judgeClose, judgeDrop, judgeTally}
 use Rattle.model.specs.Told.{Told, doneClose, refusal}
@@ -50,8 +50,8 @@ fieldOn s child (bytes b) = field s child (bytes b)
 fieldOn s child (field u c r) = field u c (fieldOn s child r)
 
 -- a field appended, zero bytes of its width
-abbrev pub linkOn : ℕ → Reading → Reading → Reading
-linkOn w child r = putOn (replicate w 0) (fieldOn (record { at = readingSize r; width = w }) child r)
+abbrev pub linkOn : ℕ → ℕ → Reading → Reading → Reading
+linkOn w i child r = putOn (replicate w 0) (fieldOn (newSlot (readingSize r) w i) child r)
 
 -- ---- what the accepted calls change
 
@@ -90,7 +90,7 @@ unfoldable pub judged : Needs → SessionCall → History → Verdict
 judged n (startCall m records) h = judgeStart m (n .records m) records
 judged n openCall h = judgeOpen true (counts h)
 judged n (putCall vs) h = judgePut true (h .limits) (counts h) (length vs)
-judged n (linkCall w id) h = judgeLink true (h .limits) (counts h) w id
+judged n (linkCall w id i) h = judgeLink true (h .limits) (counts h) (newSlot (readingSize (innermostReading (h .opens))) w i) id
 judged n closeCall h = judgeClose true (h .limits) (counts h) (readingSize (innermostReading (h .opens))) (idOf h)
 judged n dropCall h = judgeDrop true (counts h)
 judged n tallyCall h = judgeTally true
@@ -99,7 +99,7 @@ unfoldable pub accept : SessionCall → History → History
 accept (startCall m records) h = begun m
 accept openCall h = keepOpens (bytes [] ∷ h .opens) h
 accept (putCall vs) h = onInner (putOn vs) h
-accept (linkCall w id) h = onInner (linkOn w (readingAt (h .closed) id)) h
+accept (linkCall w id i) h = onInner (linkOn w i (readingAt (h .closed) id)) h
 accept closeCall h = closes h
 accept dropCall h = keepOpens (others (h .opens)) h
 accept tallyCall h = h
@@ -124,7 +124,7 @@ unfoldable pub Starts : Needs → Call → History → Type 0
 Starts n (sessionCall (startCall m records)) h = judged n (startCall m records) h ≡ accepted
 Starts n (sessionCall openCall) h = ⊥
 Starts n (sessionCall (putCall vs)) h = ⊥
-Starts n (sessionCall (linkCall w id)) h = ⊥
+Starts n (sessionCall (linkCall w id i)) h = ⊥
 Starts n (sessionCall closeCall) h = ⊥
 Starts n (sessionCall dropCall) h = ⊥
 Starts n (sessionCall tallyCall) h = ⊥
@@ -142,7 +142,7 @@ unfoldable pub idTold : SessionCall → History → ℕ
 idTold (startCall m records) h = 0
 idTold openCall h = 0
 idTold (putCall vs) h = 0
-idTold (linkCall w id) h = 0
+idTold (linkCall w id i) h = 0
 idTold closeCall h = idOf h
 idTold dropCall h = 0
 idTold tallyCall h = 0

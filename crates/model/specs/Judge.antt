@@ -9,7 +9,7 @@ use Rattle.answer.specs.Number.{number}
 use Rattle.answer.specs.declared.tally.Tally.{Tally}
 use Rattle.answer.specs.declared.Refusal.{Refusal}
 use Rattle.answer.specs.declared.Refusal.the-variants as Refusal
-use Rattle.model.specs.Object.{widthOk}
+use Rattle.model.specs.Object.{Slot, slotOk}
 use Rattle.model.specs.Table.{Outcome, placed, overflow}
 
 -- ---- ranges
@@ -82,9 +82,9 @@ notClosed t id = when (leb (t .objects) id) Refusal.NotClosed
 abbrev pub storeFull : Limits → Tally → ℕ → Test
 storeFull m t n = when (ltb (m .bytes) (t .bytes + n)) Refusal.StoreFull
 
--- a width that no field has
-abbrev pub badWidth : ℕ → Test
-badWidth width = when (not (widthOk width)) Refusal.BadWidth
+-- a width that no field has, or an inner start past the field
+abbrev pub badField : Slot → Test
+badField s = when (not (slotOk s)) Refusal.BadField
 
 abbrev pub linksFull : Limits → Tally → Test
 linksFull m t = when (leb (m .links) (t .links)) Refusal.LinksFull
@@ -119,9 +119,10 @@ openTests sound t = unsound sound ∷ when (leb mostOpen (t .depth)) Refusal.Dep
 abbrev pub putTests : Bool → Limits → Tally → ℕ → List Test
 putTests sound m t n = unsound sound ∷ nothingOpen t ∷ storeFull m t n ∷ []
 
-abbrev pub linkTests : Bool → Limits → Tally → ℕ → ℕ → List Test
-linkTests sound m t width id =
-    unsound sound ∷ nothingOpen t ∷ badWidth width ∷ notClosed t id ∷ linksFull m t ∷ storeFull m t width ∷ []
+-- `s` is the field that the link would append
+abbrev pub linkTests : Bool → Limits → Tally → Slot → ℕ → List Test
+linkTests sound m t s id =
+    unsound sound ∷ nothingOpen t ∷ badField s ∷ notClosed t id ∷ linksFull m t ∷ storeFull m t (s .width) ∷ []
 
 -- `size` is the innermost open object's; `twin` the lowest id of an equal closed one, or the count of closed ones
 abbrev pub closeTests : Bool → Limits → Tally → ℕ → ℕ → List Test
@@ -153,8 +154,8 @@ judgeOpen sound t = verdict (openTests sound t)
 abbrev pub judgePut : Bool → Limits → Tally → ℕ → Verdict
 judgePut sound m t n = verdict (putTests sound m t n)
 
-abbrev pub judgeLink : Bool → Limits → Tally → ℕ → ℕ → Verdict
-judgeLink sound m t width id = verdict (linkTests sound m t width id)
+abbrev pub judgeLink : Bool → Limits → Tally → Slot → ℕ → Verdict
+judgeLink sound m t s id = verdict (linkTests sound m t s id)
 
 abbrev pub judgeClose : Bool → Limits → Tally → ℕ → ℕ → Verdict
 judgeClose sound m t size twin = verdict (closeTests sound m t size twin)

@@ -6,10 +6,11 @@ use lib.ListN.{length, getD, replicate}
 use lib.Dec.{eqb, leb}
 use Rattle.lists.specs.Lists.{sameList}
 
--- a field: its place in its object, and its width in bytes
+-- a field: its place in its object, its width in bytes, and its inner start: the place in its object that its offset counts from
 pub record Slot : Type 0 where
   pub at : ℕ
   pub width : ℕ
+  pub inner : ℕ
 
 -- a field and the child's id
 pub record Link : Type 0 where
@@ -44,21 +45,29 @@ widest = 4
 abbrev pub widthOk : ℕ → Bool
 widthOk w = leb narrowest w && leb w widest
 
+-- and an inner start that is not past the field
+abbrev pub slotOk : Slot → Bool
+slotOk s = widthOk (s .width) && leb (s .inner) (s .at)
+
 -- bytes appended
 abbrev pub withBytes : List ℕ → Object → Object
 withBytes vs o = record { bytes = o .bytes ++ vs; links = o .links }
 
+-- the field that stands behind n bytes
+abbrev pub newSlot : ℕ → ℕ → ℕ → Slot
+newSlot n w i = record { at = n; width = w; inner = i }
+
 -- a link to c whose field stands behind the bytes
-abbrev pub newLink : ℕ → ℕ → Object → Link
-newLink w c o = record { slot = record { at = length (o .bytes); width = w }; child = c }
+abbrev pub newLink : ℕ → ℕ → ℕ → Object → Link
+newLink w c i o = record { slot = newSlot (sizeOf o) w i; child = c }
 
 -- a link appended, and with it its own field of zero bytes
-abbrev pub withLink : ℕ → ℕ → Object → Object
-withLink w c o = record { bytes = o .bytes ++ replicate w 0; links = o .links ++ (newLink w c o ∷ []) }
+abbrev pub withLink : ℕ → ℕ → ℕ → Object → Object
+withLink w c i o = record { bytes = o .bytes ++ replicate w 0; links = o .links ++ (newLink w c i o ∷ []) }
 
 -- the comparison at closing: the same bytes and the same links, children by id
 abbrev pub sameSlot : Slot → Slot → Bool
-sameSlot s t = eqb (s .at) (t .at) && eqb (s .width) (t .width)
+sameSlot s t = eqb (s .at) (t .at) && (eqb (s .width) (t .width) && eqb (s .inner) (t .inner))
 
 abbrev pub sameLink : Link → Link → Bool
 sameLink l m = sameSlot (l .slot) (m .slot) && eqb (l .child) (m .child)

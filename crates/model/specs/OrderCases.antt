@@ -35,7 +35,11 @@ allRight [] = true
 allRight (c ∷ cs) = right c && allRight cs
 
 abbrev to : ℕ → ℕ → ℕ → Link
-to at width child = record { slot = record { at = at; width = width }; child = child }
+to at width child = record { slot = record { at = at; width = width; inner = 0 }; child = child }
+
+-- with an inner start
+abbrev toFrom : ℕ → ℕ → ℕ → ℕ → Link
+toFrom at width inner child = record { slot = record { at = at; width = width; inner = inner }; child = child }
 
 abbrev pub cases : List Case
 cases =
@@ -128,6 +132,23 @@ cases =
       kahn = 2 ∷ 0 ∷ 1 ∷ [];
       distance = 2 ∷ 0 ∷ 1 ∷ [];
       unfit = 2 ∷ 2 ∷ 65536 ∷ [];
+    }
+    -- an inner start that is just far enough, and one byte too near
+    ∷ record {
+      sizes = 1 ∷ 70004 ∷ [];
+      links = [] ∷ (toFrom 70002 2 4469 0 ∷ []) ∷ [];
+      root = 1;
+      kahn = 1 ∷ 0 ∷ [];
+      distance = 1 ∷ 0 ∷ [];
+      unfit = [];
+    }
+    ∷ record {
+      sizes = 1 ∷ 70004 ∷ [];
+      links = [] ∷ (toFrom 70002 2 4468 0 ∷ []) ∷ [];
+      root = 1;
+      kahn = 1 ∷ 0 ∷ [];
+      distance = 1 ∷ 0 ∷ [];
+      unfit = 1 ∷ 70002 ∷ 65536 ∷ [];
     }
     -- HarfBuzz's graph: f d b g e c a are 0 to 6
     ∷ record {

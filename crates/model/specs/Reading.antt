@@ -74,7 +74,7 @@ pub record Own (t : List ℕ) (p : ℕ) (r : Reading) : Type 0 where
 
 -- where a field of the object at p leads
 abbrev pub target : List ℕ → ℕ → Slot → ℕ
-target t p s = p + readBig (part (p + s .at) (p + s .at + s .width) t)
+target t p s = p + s .inner + readBig (part (p + s .at) (p + s .at + s .width) t)
 
 -- every field of the object at p lies in the table and leads to what shows its child
 unfoldable pub FieldsShow : List ℕ → ℕ → Reading → Type 0

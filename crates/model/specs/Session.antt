@@ -6,7 +6,7 @@ use lib.ListN.{length}
 use lib.Dec.{ltb}
 use Rattle.lists.specs.Lists.{pick, total, firstThat}
 use Rattle.answer.specs.declared.tally.Tally.{Tally}
-use Rattle.model.specs.Object.{Object, noObject, objectAt, sizeOf, linkCount, withBytes, withLink, sameObject}
+use Rattle.model.specs.Object.{Object, noObject, objectAt, sizeOf, linkCount, withBytes, newSlot, withLink, sameObject}
 use Rattle.model.specs.Graph.{graphOf}
 use Rattle.model.specs.Table.{Outcome, placed, overflow, arranged, tableLength, tableOf}
 use Rattle.model.specs.Judge.{Limits, Verdict, accepted, refused, judgeStart, judgeOpen, judgePut, judgeLink, judgeClose, judgeDrop, judgeTally, judgePack}
@@ -71,7 +71,7 @@ pub data SessionCall : Type 0 where
   startCall : Limits → ℕ → SessionCall
   openCall : SessionCall
   putCall : List ℕ → SessionCall
-  linkCall : ℕ → ℕ → SessionCall
+  linkCall : ℕ → ℕ → ℕ → SessionCall
   closeCall : SessionCall
   dropCall : SessionCall
   tallyCall : SessionCall
@@ -94,7 +94,8 @@ unfoldable pub step : Needs → SessionCall → Session → Left
 step n (startCall m records) s = settleCall (judgeStart m (n .records m) records) s (leaves (started m))
 step n openCall s = settleCall (judgeOpen true (tallyOf s)) s (leaves (withOpens (noObject ∷ s .opens) s))
 step n (putCall vs) s = settleCall (judgePut true (s .limits) (tallyOf s) (length vs)) s (leaves (onInnermost (withBytes vs) s))
-step n (linkCall w id) s = settleCall (judgeLink true (s .limits) (tallyOf s) w id) s (leaves (onInnermost (withLink w id) s))
+step n (linkCall w id i) s =
+    settleCall (judgeLink true (s .limits) (tallyOf s) (newSlot (sizeOf (innermost (s .opens))) w i) id) s (leaves (onInnermost (withLink w id i) s))
 step n closeCall s =
     settleCall (judgeClose true (s .limits) (tallyOf s) (sizeOf (innermost (s .opens))) (twin s)) s
     (record { told = doneClose (twin s) (tallyOf (sealed s)); after = sealed s })

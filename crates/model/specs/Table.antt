@@ -20,9 +20,9 @@ before f (y ∷ o) x = pick (eqb x y) 0 (f y + before f o x)
 abbrev pub placeOf : Graph → List ℕ → ℕ → ℕ
 placeOf g o x = before (g .size) o x
 
--- from the first byte of the object that has the field; `place` gives each object's
+-- from the field's inner start in the object that has it; `place` gives each object's
 unfoldable pub offset : (ℕ → ℕ) → ℕ → Link → ℕ
-offset place p l = place (l .child) - place p
+offset place p l = place (l .child) - place p - l .slot .inner
 
 -- ---- the links that do not fit, in placing order and then by rising field
 
@@ -104,10 +104,11 @@ tableOf g content o = tableFrom g content (placeOf g o) o
 
 -- ---- what the laws of tables ask
 
--- a field from `from` on, inside n bytes
+-- a field from `from` on, inside n bytes, its inner start not past it
 pub record SlotIn (from n : ℕ) (s : Slot) : Type 0 where
   pub after : from ≤ s .at
   pub inside : s .at + s .width ≤ n
+  pub start : s .inner ≤ s .at
 
 -- fields in rising order, apart
 unfoldable pub FieldsIn : ℕ → ℕ → List Link → Type 0

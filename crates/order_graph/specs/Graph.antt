@@ -96,7 +96,7 @@ pub record AtLink (a : Areas) (n i t : ℕ) (w : List ℕ) : Type 0 where
 
 -- the link that a field was read as
 abbrev pub linkBy : Field → Link
-linkBy f = linkOfWords (f .at) (f .width) (f .child)
+linkBy f = linkOfWords (f .at) (f .width) (f .inner) (f .child)
 
 -- l is link t of node i
 pub record FieldOf (a : Areas) (n : ℕ) (f : List ℕ) (i t : ℕ) (l : Link) : Type 0 where

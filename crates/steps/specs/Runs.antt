@@ -18,7 +18,7 @@ pub data StoreCall : Type 0 where
   start : ℕ → ℕ → StoreCall
   open' : StoreCall
   put : List ℕ → StoreCall
-  link : ℕ → ℕ → StoreCall
+  link : ℕ → ℕ → ℕ → StoreCall
   close : StoreCall
   drop : StoreCall
   tally : StoreCall
@@ -48,7 +48,7 @@ unfoldable pub stepOn : StoreCall → Stores → Left
 stepOn (start objects links) s = leftBy (startStep objects links (s .bytes) (s .words))
 stepOn open' s = leftBy (openStep (s .bytes) (s .words))
 stepOn (put vs) s = leftBy (putStep vs (s .bytes) (s .words))
-stepOn (link width id) s = leftBy (linkStep width id (s .bytes) (s .words))
+stepOn (link width id inner) s = leftBy (linkStep width id inner (s .bytes) (s .words))
 stepOn close s = leftByClose (closeStep (s .bytes) (s .words))
 stepOn drop s = leftBy (dropStep (s .bytes) (s .words))
 stepOn tally s = leftBy (tallyStep (s .bytes) (s .words))
@@ -87,7 +87,7 @@ unfoldable pub asCall : ℕ → ℕ → StoreCall → SessionCall
 asCall bytes words (start objects links) = startCall (record { objects = objects; links = links; bytes = bytes }) words
 asCall bytes words open' = openCall
 asCall bytes words (put vs) = putCall vs
-asCall bytes words (link width id) = linkCall width id
+asCall bytes words (link width id inner) = linkCall width id inner
 asCall bytes words close = closeCall
 asCall bytes words drop = dropCall
 asCall bytes words tally = tallyCall

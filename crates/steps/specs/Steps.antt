@@ -11,7 +11,7 @@ use Rattle.answer.specs.declared.Answer.{Answer}
 use Rattle.answer.specs.declared.Answer.the-variants.{Done, Refused}
 use Rattle.answer.specs.declared.Closing.{Closing}
 use Rattle.answer.specs.declared.Closing.the-variants as Closing
-use Rattle.model.specs.Object.{Link, Object, sameObject}
+use Rattle.model.specs.Object.{Link, Object, newSlot, sameObject}
 use Rattle.model.specs.Judge.{Limits, Verdict, accepted, refused, judgeStart, judgeOpen, judgePut, judgeLink, judgeClose, judgeDrop, judgeTally}
 use Rattle.layout.specs.declared.state.State.{State}
 use Rattle.layout.specs.Words.{objectLimitAt, closedCountAt, openDepthAt, closedCount, openDepth, endsAt, linkEndsAt, beginsAt, linkBeginsBase, linkBeginsAt, linksAt, linkWords, need, limitsIn, linkLimit, top, linkTop, low, linkLow, wordsOf}
@@ -96,18 +96,18 @@ innermostIn b w = openAt b w (openDepth w - 1)
 -- ---- link: its field is zero bytes, which stand there already; its record behind the open ones
 
 -- its field begins where the innermost open object ended
-abbrev pub madeLink : ℕ → ℕ → List ℕ → Link
-madeLink width id w = record { slot = record { at = top w - under w; width = width }; child = id }
+abbrev pub madeLink : ℕ → ℕ → ℕ → List ℕ → Link
+madeLink width id inner w = record { slot = newSlot (top w - under w) width inner; child = id }
 
-abbrev pub linkWordsOf : ℕ → ℕ → List ℕ → List ℕ
-linkWordsOf width id w =
-    set (set (over (linksAt w + linkTop w * linkWords) (wordsOf (madeLink width id w)) w) (endsAt + openDepth w) (top w + width))
+abbrev pub linkWordsOf : Link → List ℕ → List ℕ
+linkWordsOf l w =
+    set (set (over (linksAt w + linkTop w * linkWords) (wordsOf l) w) (endsAt + openDepth w) (top w + l .slot .width))
     (linkEndsAt + openDepth w) (linkTop w + 1)
 
-unfoldable pub linkStep : ℕ → ℕ → List ℕ → List ℕ → Out
-linkStep width id b w =
-    settleStep (judgeLink (sound b w) (limitsIn w) (tallyIn b w) width id) b w
-    (outcome (Done (grown width 1 (tallyIn b w))) b (linkWordsOf width id w))
+unfoldable pub linkStep : ℕ → ℕ → ℕ → List ℕ → List ℕ → Out
+linkStep width id inner b w =
+    let l = madeLink width id inner w in
+    settleStep (judgeLink (sound b w) (limitsIn w) (tallyIn b w) (l .slot) id) b w (outcome (Done (grown width 1 (tallyIn b w))) b (linkWordsOf l w))
 
 -- ---- drop: the innermost open object's bytes cleared
 
