@@ -20,7 +20,7 @@ pub struct Overflow {
 pub enum Refusal {
     NothingOpen,
     DepthFull,
-    BadWidth,
+    BadField,
     NotClosed,
     EmptyObject,
     StoreFull,

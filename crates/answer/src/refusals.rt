@@ -12,7 +12,7 @@ pub fn number_of(why: Refusal) -> u64
     match why {
         Refusal::NothingOpen => 1,
         Refusal::DepthFull => 2,
-        Refusal::BadWidth => 3,
+        Refusal::BadField => 3,
         Refusal::NotClosed => 4,
         Refusal::EmptyObject => 5,
         Refusal::StoreFull => 6,

@@ -39,10 +39,11 @@ pub extern "C" fn scoterlime_link(
     records: &mut [u32],
     width: u32,
     id: u32,
+    inner: u32,
 ) -> Numbers
-    ensures { λ r. ⌜ left (toldIn r) (now (store .exit)) (now (records .exit)) ≡ stepOn (link width id) (stores (now (store .entry)) (now (records .entry))) ⌝ }
+    ensures { λ r. ⌜ left (toldIn r) (now (store .exit)) (now (records .exit)) ≡ stepOn (link width id inner) (stores (now (store .entry)) (now (records .entry))) ⌝ }
 {
-    tell(session::link(store, records, width, ObjectId(id)))
+    tell(session::link(store, records, width, ObjectId(id), inner))
 }
 
 #[no_mangle]

@@ -11,7 +11,7 @@ fn put(store: &mut [u8], records: &mut [u32], letter: u8) {
 
 fn link(store: &[u8], records: &mut [u32], child: u32) {
     value(b"link to ", child as u64);
-    report_calls::link(b"", store, records, 2, ObjectId(child));
+    report_calls::link(b"", store, records, 2, ObjectId(child), 0);
 }
 
 // S starts, O opens, a letter is put, a digit is linked to, C closes, D drops and T tallies.

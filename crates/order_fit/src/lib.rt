@@ -59,7 +59,7 @@ pub fn offset_at(work: &[u64], a: Areas, n: usize, i: usize, f: Field) -> u64
     let places = a.places;
     let child = f.child;
     let own = work[places + i];
-    less(work[places + child], own)
+    less(less(work[places + child], own), f.inner as u64)
 }
 
 // The first link of node i that does not fit.

@@ -13,6 +13,7 @@ ghost use Rattle.order_graph.specs.Graph.{AtNode, AtLink, FieldOf, EdgeO
 pub struct Field {
     pub at: usize,
     pub width: usize,
+    pub inner: usize,
     pub child: usize,
 }
 
@@ -58,7 +59,8 @@ pub fn field_at(work: &[u64], a: Areas, n: usize, i: usize, t: usize) -> Field
     Field {
         at: work[j] as usize,
         width: work[j + 1] as usize,
-        child: work[j + 2] as usize,
+        inner: work[j + 2] as usize,
+        child: work[j + 3] as usize,
     }
 }
 

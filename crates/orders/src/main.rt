@@ -107,7 +107,7 @@ fn load(words: &[u64], work: &mut [u64], at: usize)
     }
 }
 
-// Nodes: p sizes, p numbers of first links, p counts of links. A link: field place, width, child. The last node is the root.
+// Nodes: p sizes, p numbers of first links, p counts of links. A link: field place, width, inner start, child. The last node is the root.
 fn show(name: &[u8], nodes: &[u64], links: &[u64], p: usize)
     requires { ⌜ given p (length (now links) / linkWords) (now nodes ++ now links) ≡ true ⌝ }
 {
@@ -121,25 +121,25 @@ fn show(name: &[u8], nodes: &[u64], links: &[u64], p: usize)
 
 fn graph_5() {
     let nodes: [u64; 9] = [1, 2, 4, 0, 0, 1, 0, 1, 2];
-    let links: [u64; 9] = [0, 2, 0, 0, 2, 0, 2, 2, 1];
+    let links: [u64; 12] = [0, 2, 0, 0, 0, 2, 0, 0, 2, 2, 0, 1];
     show(b"5", &nodes, &links, 3);
 }
 
 fn graph_11() {
     let nodes: [u64; 9] = [65531, 10, 4, 0, 0, 0, 0, 0, 2];
-    let links: [u64; 6] = [0, 2, 0, 2, 2, 1];
+    let links: [u64; 8] = [0, 2, 0, 0, 2, 2, 0, 1];
     show(b"11", &nodes, &links, 3);
 }
 
 fn graph_12() {
     let nodes: [u64; 9] = [65532, 10, 4, 0, 0, 0, 0, 0, 2];
-    let links: [u64; 6] = [0, 2, 0, 2, 2, 1];
+    let links: [u64; 8] = [0, 2, 0, 0, 2, 2, 0, 1];
     show(b"12", &nodes, &links, 3);
 }
 
 fn graph_13() {
     let nodes: [u64; 9] = [65532, 65532, 4, 0, 0, 0, 0, 0, 2];
-    let links: [u64; 6] = [0, 2, 0, 2, 2, 1];
+    let links: [u64; 8] = [0, 2, 0, 0, 2, 2, 0, 1];
     show(b"13", &nodes, &links, 3);
 }
 
@@ -167,67 +167,92 @@ fn graph_14() {
         1,
         2,
     ];
-    let links: [u64; 18] = [0, 2, 0, 0, 2, 1, 0, 2, 2, 0, 2, 3, 0, 4, 4, 4, 4, 5];
+    let links: [u64; 24] = [
+        0,
+        2,
+        0,
+        0,
+        0,
+        2,
+        0,
+        1,
+        0,
+        2,
+        0,
+        2,
+        0,
+        2,
+        0,
+        3,
+        0,
+        4,
+        0,
+        4,
+        4,
+        4,
+        0,
+        5,
+    ];
     show(b"14", &nodes, &links, 7);
 }
 
 fn graph_links_x_y_x() {
     let nodes: [u64; 9] = [1, 1, 6, 0, 0, 0, 0, 0, 3];
-    let links: [u64; 9] = [0, 2, 0, 2, 2, 1, 4, 2, 0];
+    let links: [u64; 12] = [0, 2, 0, 0, 2, 2, 0, 1, 4, 2, 0, 0];
     show(b"links x y x", &nodes, &links, 3);
 }
 
 fn graph_unreached_parent() {
     let nodes: [u64; 9] = [1, 3, 2, 0, 0, 1, 0, 1, 1];
-    let links: [u64; 6] = [1, 2, 0, 0, 2, 0];
+    let links: [u64; 8] = [1, 2, 0, 0, 0, 2, 0, 0];
     show(b"unreached parent", &nodes, &links, 3);
 }
 
 fn graph_equal_distances_ids_along() {
     let nodes: [u64; 15] = [65531, 65530, 5, 6, 4, 0, 0, 0, 1, 2, 0, 0, 1, 1, 2];
-    let links: [u64; 12] = [3, 2, 0, 4, 2, 1, 0, 2, 2, 2, 2, 3];
+    let links: [u64; 16] = [3, 2, 0, 0, 4, 2, 0, 1, 0, 2, 0, 2, 2, 2, 0, 3];
     show(b"equal distances ids along", &nodes, &links, 5);
 }
 
 fn graph_equal_distances_ids_other_way_round() {
     let nodes: [u64; 15] = [65530, 65531, 5, 6, 4, 0, 0, 0, 1, 2, 0, 0, 1, 1, 2];
-    let links: [u64; 12] = [3, 2, 1, 4, 2, 0, 0, 2, 2, 2, 2, 3];
+    let links: [u64; 16] = [3, 2, 0, 1, 4, 2, 0, 0, 0, 2, 0, 2, 2, 2, 0, 3];
     show(b"equal distances ids other way round", &nodes, &links, 5);
 }
 
 fn graph_lighter_link_second() {
     let nodes: [u64; 15] = [1, 3, 65530, 10, 10, 0, 0, 0, 0, 1, 0, 0, 0, 1, 4];
-    let links: [u64; 15] = [6, 4, 0, 0, 2, 2, 2, 2, 3, 4, 4, 1, 8, 2, 1];
+    let links: [u64; 20] = [6, 4, 0, 0, 0, 2, 0, 2, 2, 2, 0, 3, 4, 4, 0, 1, 8, 2, 0, 1];
     show(b"lighter link second", &nodes, &links, 5);
 }
 
 fn graph_lighter_link_first() {
     let nodes: [u64; 15] = [1, 3, 65530, 10, 10, 0, 0, 0, 0, 1, 0, 0, 0, 1, 4];
-    let links: [u64; 15] = [6, 4, 0, 0, 2, 2, 2, 2, 3, 4, 2, 1, 6, 4, 1];
+    let links: [u64; 20] = [6, 4, 0, 0, 0, 2, 0, 2, 2, 2, 0, 3, 4, 2, 0, 1, 6, 4, 0, 1];
     show(b"lighter link first", &nodes, &links, 5);
 }
 
 fn graph_different_ready_times() {
     let nodes: [u64; 15] = [65540, 65541, 6, 5, 4, 0, 0, 0, 1, 2, 0, 0, 1, 1, 2];
-    let links: [u64; 12] = [4, 2, 0, 3, 2, 1, 0, 2, 2, 2, 2, 3];
+    let links: [u64; 16] = [4, 2, 0, 0, 3, 2, 0, 1, 0, 2, 0, 2, 2, 2, 0, 3];
     show(b"different ready times", &nodes, &links, 5);
 }
 
 fn graph_three_weighs_more_than_two() {
     let nodes: [u64; 9] = [1, 10, 5, 0, 0, 0, 0, 0, 2];
-    let links: [u64; 6] = [0, 3, 0, 3, 2, 1];
+    let links: [u64; 8] = [0, 3, 0, 0, 3, 2, 0, 1];
     show(b"width 3 weighs more than width 2", &nodes, &links, 3);
 }
 
 fn graph_three_weighs_less_than_four() {
     let nodes: [u64; 9] = [10, 1, 7, 0, 0, 0, 0, 0, 2];
-    let links: [u64; 6] = [0, 4, 1, 4, 3, 0];
+    let links: [u64; 8] = [0, 4, 0, 1, 4, 3, 0, 0];
     show(b"width 3 weighs less than width 4", &nodes, &links, 3);
 }
 
 fn graph_least_of_two_paths() {
     let nodes: [u64; 15] = [7, 9, 5, 5, 4, 0, 0, 0, 1, 3, 0, 0, 1, 2, 2];
-    let links: [u64; 15] = [1, 4, 0, 1, 2, 1, 3, 2, 0, 0, 2, 2, 2, 2, 3];
+    let links: [u64; 20] = [1, 4, 0, 0, 1, 2, 0, 1, 3, 2, 0, 0, 0, 2, 0, 2, 2, 2, 0, 3];
     show(b"least of two paths", &nodes, &links, 5);
 }
 

@@ -22,8 +22,8 @@ pub fn put(name: &[u8], store: &mut [u8], records: &mut [u32], bytes: &[u8]) {
     tell(name, told);
 }
 
-pub fn link(name: &[u8], store: &[u8], records: &mut [u32], width: u32, id: ObjectId) {
-    let told = session::link(store, records, width, id);
+pub fn link(name: &[u8], store: &[u8], records: &mut [u32], width: u32, id: ObjectId, inner: u32) {
+    let told = session::link(store, records, width, id, inner);
     tell(name, told);
 }
 

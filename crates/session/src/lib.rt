@@ -39,12 +39,12 @@ pub fn put(store: &mut [u8], records: &mut [u32], bytes: &[u8]) -> Answer
     Answer::Refused(Refusal::Unsound, Tally::none())
 }
 
-// 12 where the session is not sound, 1 nothing open, 3 a width that no field has, 4 no such closed object, 7 no room for a link, 6 none for its field.
-pub fn link(store: &[u8], records: &mut [u32], width: u32, id: ObjectId) -> Answer
-    ensures { λ r. ⌜ left (toldBy r) (now (store .entry)) (now (records .exit)) ≡ stepOn (link width (id .0)) (stores (now (store .entry)) (now (records .entry))) ⌝ }
+// 12 where the session is not sound, 1 nothing open, 3 a width that no field has or an inner start past the field, 4 no such closed object, 7 no room for a link, 6 none for its field.
+pub fn link(store: &[u8], records: &mut [u32], width: u32, id: ObjectId, inner: u32) -> Answer
+    ensures { λ r. ⌜ left (toldBy r) (now (store .entry)) (now (records .exit)) ≡ stepOn (link width (id .0) inner) (stores (now (store .entry)) (now (records .entry))) ⌝ }
 {
     if is_sound(store, records) {
-        return link_sound(store, records, width, id);
+        return link_sound(store, records, width, id, inner);
     }
     Answer::Refused(Refusal::Unsound, Tally::none())
 }

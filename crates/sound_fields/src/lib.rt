@@ -13,26 +13,27 @@ ghost use mathlib.Core.Path.{_≡_};
 ghost use Prim.Native.Nat.{_*_, _^_, _<_};
 ghost use lib.ListN.{length};
 ghost use Rattle.lists.specs.Lists.{holds};
-ghost use Rattle.model.specs.Object.{widthOk};
+ghost use Rattle.model.specs.Object.{slotOk};
 ghost use Rattle.layout.specs.Words.{linkWords, linksOf, openDepth, closedCount, linksAt};
 ghost use Rattle.layout.specs.Fields.{fieldTests, fieldsOk, objectOk};
 ghost use mathlib.Core.Bool.{true};
 ghost use Rattle.layout.specs.Tables.{forAll};
 ghost use Rattle.layout.specs.Decode.{objectIn, openAt, closedAt};
 ghost use Rattle.layout.specs.Sound.{tableTests};
-ghost use Rattle.layout.specs.Links.{linkIn};
+ghost use Rattle.layout.specs.Links.{linkIn, InWords};
 ghost use Rattle.layout.specs.Spans.{Within};
 ghost use Rattle.layout.specs.Known.{Head};
 
-pub fn width_ok(width: usize) -> bool
-    ensures { λ r. ⌜ r ≡ widthOk width ⌝ }
+// A width and an inner start that a field may have.
+pub fn slot_ok(l: Link) -> bool
+    ensures { λ r. ⌜ r ≡ slotOk (linkIn l .slot) ⌝ }
 {
-    (NARROWEST <= width) & (width <= WIDEST)
+    (NARROWEST <= l.width) & (l.width <= WIDEST) & (l.inner <= l.at)
 }
 
 // One link's field.
 fn field_ok(bytes: &[u8], l: Link, from: usize, kids: usize) -> bool
-    requires { ⌜ (l .at < 2 ^ 32) × (l .width < 2 ^ 32) ⌝ }
+    requires { ⌜ InWords l ⌝ }
     ensures { λ r. ⌜ r ≡ holds (fieldTests kids from (now (bytes .entry)) (linkIn l)) ⌝ }
 {
     let at = l.at;
@@ -42,7 +43,7 @@ fn field_ok(bytes: &[u8], l: Link, from: usize, kids: usize) -> bool
     if at < from {
         return false;
     }
-    if !width_ok(width) {
+    if !slot_ok(l) {
         return false;
     }
     if bytes.len() < end {
