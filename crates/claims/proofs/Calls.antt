@@ -57,7 +57,7 @@ module _ (s : Stores) where
   judged (start objects links) = settled (verdict (testsOf s (onStores (start objects links)))) _ refl
   judged open' = settled (verdict (testsOf s (onStores open'))) _ refl
   judged (put vs) = settled (verdict (testsOf s (onStores (put vs)))) _ refl
-  judged (link width id) = settled (verdict (testsOf s (onStores (link width id)))) _ refl
+  judged (link width id inner) = settled (verdict (testsOf s (onStores (link width id inner)))) _ refl
   judged close = settled-close (verdict (testsOf s (onStores close))) _ (closed-done (ltb (twinIn b w) (closedCount w)))
   judged drop' = settled (verdict (testsOf s (onStores drop'))) _ refl
   judged tally = settled (verdict (testsOf s (onStores tally))) _ refl

@@ -11,7 +11,7 @@ use lib.Dec.{ltb}
 use Rattle.lists.specs.Lists.{pick, part}
 use Rattle.lists.proofs.Over.{over-drop}
 use Rattle.lists.proofs.Runs.{length-part}
-use Rattle.model.specs.Object.{sizeOf}
+use Rattle.model.specs.Object.{Link, sizeOf, newSlot}
 use Rattle.model.specs.Judge.{Limits, Verdict, accepted, refused, verdict, judgeOpen, judgePut, judgeLink, judgeClose, judgeDrop, judgeTally}
 use Rattle.model.specs.Session.{Needs, Session, tallyOf, innermost, twin, Left, settleCall, step}
 use Rattle.model.proofs.Verdicts.{passes}
@@ -55,11 +55,11 @@ module _ {b w : List ℕ} (s : Sound b w) where
   put-past : (x : ℕ) → drop n (set w (endsAt + openDepth w) x) ≡ drop n w
   put-past x = drop-set-lt n w (endsAt + openDepth w) x (omega arith)
 
-  link-past : (width id : ℕ) → linkTop w < linkLimit w → drop n (linkWordsOf width id w) ≡ drop n w
-  link-past width id h =
+  link-past : (l : Link) → linkTop w < linkLimit w → drop n (linkWordsOf l w) ≡ drop n w
+  link-past l h =
       drop-set-lt n _ (linkEndsAt + openDepth w) (linkTop w + 1) (omega arith)
-      ∙ drop-set-lt n _ (endsAt + openDepth w) (top w + width) (omega arith)
-      ∙ over-drop (linksAt w + linkTop w * linkWords) (wordsOf (madeLink width id w)) w (omega arith) n (omega arith)
+      ∙ drop-set-lt n _ (endsAt + openDepth w) (top w + l .slot .width) (omega arith)
+      ∙ over-drop (linksAt w + linkTop w * linkWords) (wordsOf l) w (omega arith) n (omega arith)
 
   drop-past : (x : ℕ) → drop n (set w 2 x) ≡ drop n w
   drop-past x = drop-set-lt n w 2 x (omega arith)
@@ -82,7 +82,7 @@ abbrev starts : StoreCall → Bool
 starts (start objects links) = true
 starts open' = false
 starts (put vs) = false
-starts (link width id) = false
+starts (link width id inner) = false
 starts close = false
 starts drop' = false
 starts tally = false
@@ -96,7 +96,8 @@ unfolding step asCall
 step-limits needs bytes words (start objects links) a k = absurd (true≢false k)
 step-limits needs bytes words open' a k = same-limits (judgeOpen true (tallyOf a)) a _ refl
 step-limits needs bytes words (put vs) a k = same-limits (judgePut true (a .limits) (tallyOf a) (length vs)) a _ refl
-step-limits needs bytes words (link width id) a k = same-limits (judgeLink true (a .limits) (tallyOf a) width id) a _ refl
+step-limits needs bytes words (link width id inner) a k =
+    same-limits (judgeLink true (a .limits) (tallyOf a) (newSlot (sizeOf (innermost (a .opens))) width inner) id) a _ refl
 step-limits needs bytes words close a k = same-limits (judgeClose true (a .limits) (tallyOf a) (sizeOf (innermost (a .opens))) (twin a)) a _ refl
 step-limits needs bytes words drop' a k = same-limits (judgeDrop true (tallyOf a)) a _ refl
 step-limits needs bytes words tally a k = same-limits (judgeTally true) a _ refl
@@ -136,7 +137,7 @@ module _ (s : Stores) where
   accepted-sound (start objects links) k e = absurd (true≢false k)
   accepted-sound open' k e = not-false _ (passes _ e 0)
   accepted-sound (put vs) k e = not-false _ (passes _ e 0)
-  accepted-sound (link width id) k e = not-false _ (passes _ e 0)
+  accepted-sound (link width id inner) k e = not-false _ (passes _ e 0)
   accepted-sound close k e = not-false _ (passes _ e 0)
   accepted-sound drop' k e = not-false _ (passes _ e 0)
   accepted-sound tally k e = not-false _ (passes _ e 0)
@@ -154,7 +155,7 @@ module _ (s : Stores) where
   past (start objects links) k e s = absurd (true≢false k)
   past open' k e s = rw e (open-past s _ _ _)
   past (put vs) k e s = rw e (put-past s _)
-  past (link width id) k e s = rw e (link-past s width id (omega (arith, leb-false (linkLimit w) (tallyIn b w .links) (passes _ e 4))))
+  past (link width id inner) k e s = rw e (link-past s (madeLink width id inner w) (omega (arith, leb-false (linkLimit w) (tallyIn b w .links) (passes _ e 4))))
   past close k e s = close-past e s
   past drop' k e s = rw e (drop-past s _)
   past tally k e s = rw e
@@ -179,7 +180,7 @@ module _ (s : Stores) where
   accepted-surplus (start objects links) e = started objects links e
   accepted-surplus open' e = others open' refl e
   accepted-surplus (put vs) e = others (put vs) refl e
-  accepted-surplus (link width id) e = others (link width id) refl e
+  accepted-surplus (link width id inner) e = others (link width id inner) refl e
   accepted-surplus close e = others close refl e
   accepted-surplus drop' e = others drop' refl e
   accepted-surplus tally e = others tally refl e

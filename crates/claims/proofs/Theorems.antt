@@ -11,8 +11,8 @@ use Rattle.lists.specs.Lists.{Exactly}
 use Rattle.answer.specs.Number.{number}
 use Rattle.answer.specs.declared.tally.Tally.{Tally}
 use Rattle.answer.specs.declared.Refusal.the-variants as Refusal
-use Rattle.model.specs.Object.{widthOk}
-use Rattle.model.specs.Reading.{Reading}
+use Rattle.model.specs.Object.{Slot, slotOk, newSlot}
+use Rattle.model.specs.Reading.{Reading, readingSize}
 use Rattle.model.specs.Judge.{Verdict, accepted, refused, numberOf, Test, Tells, none, this, next, verdict, putTests, linkTests}
 use Rattle.model.specs.Told.{Told, doneClose}
 use Rattle.model.specs.History.{History, innermostReading, sum, counts, judged, expected, tell, AllDifferent, Alike}
@@ -84,12 +84,16 @@ module _ (bytes words : ℕ) (s : Stores) (h : History) (xs : List Made) (m : Ma
       from (next i (next j (this k z))) = (some-open (eqb-false _ _ j), ltb-true _ _ k)
       from (next i (next j (next k (none z)))) = absurd (omega arith)
 
-  -- by a link exactly where an object is open, the width is allowed, the id is a closed object's, a link is left, and the sum with the field passes the store
-  pub no-room-link : (width id : ℕ) → m .call ≡ onStores (link width id)
-      → Exactly (m .left .told .number ≡ number Refusal.StoreFull) ((0 < length (now .opens)) × (widthOk width ≡ true) × (id < length (now .closed)) × (counts now .links < now .limits .links) × (now .limits .bytes < sum now + width))
+  -- the field that a link would append
+  abbrev slotOn : ℕ → ℕ → Slot
+  slotOn width inner = newSlot (readingSize (innermostReading (now .opens))) width inner
+
+  -- by a link exactly where an object is open, the field is allowed, the id is a closed object's, a link is left, and the sum with the field passes the store
+  pub no-room-link : (width id inner : ℕ) → m .call ≡ onStores (link width id inner)
+      → Exactly (m .left .told .number ≡ number Refusal.StoreFull) ((0 < length (now .opens)) × (slotOk (slotOn width inner) ≡ true) × (id < length (now .closed)) × (counts now .links < now .limits .links) × (now .limits .bytes < sum now + width))
   unfolding judged asCall
-  no-room-link width id e =
-      let t = tells (link width id) (linkTests true (now .limits) (counts now) width id) e refl (number Refusal.StoreFull) in
+  no-room-link width id inner e =
+      let t = tells (link width id inner) (linkTests true (now .limits) (counts now) (slotOn width inner) id) e refl (number Refusal.StoreFull) in
       record {
         only = λ z. from (t .only z);
         when = λ p. t .when
@@ -98,15 +102,15 @@ module _ (bytes words : ℕ) (s : Stores) (h : History) (xs : List Made) (m : Ma
             (next (rw (p .1)) (next (lt-leb _ _ (p .2)) (next (lt-leb _ _ (p .3)) (this (lt-ltb _ _ (p .4)) refl))))));
       }
     where
-      from : Tells (linkTests true (now .limits) (counts now) width id) 6
-          → (0 < length (now .opens)) × (widthOk width ≡ true) × (id < length (now .closed)) × (counts now .links < now .limits .links) × (now .limits .bytes < sum now + width)
+      from : Tells (linkTests true (now .limits) (counts now) (slotOn width inner) id) 6
+          → (0 < length (now .opens)) × (slotOk (slotOn width inner) ≡ true) × (id < length (now .closed)) × (counts now .links < now .limits .links) × (now .limits .bytes < sum now + width)
       from (this i z) = absurd (omega arith)
       from (next i (this j z)) = absurd (omega arith)
       from (next i (next j (this k z))) = absurd (omega arith)
       from (next i (next j (next k (this l z)))) = absurd (omega arith)
       from (next i (next j (next k (next l (this n z))))) = absurd (omega arith)
       from (next i (next j (next k (next l (next n (this o z)))))) =
-          (some-open (eqb-false _ _ j), not-false (widthOk width) k, leb-false _ _ l, leb-false _ _ n, ltb-true _ _ o)
+          (some-open (eqb-false _ _ j), not-false (slotOk (slotOn width inner)) k, leb-false _ _ l, leb-false _ _ n, ltb-true _ _ o)
       from (next i (next j (next k (next l (next n (next o (none z))))))) = absurd (omega arith)
 
 -- ---- two accepted closings, with no accepted start between them, tell the same id exactly if their objects read the same

@@ -6,17 +6,16 @@ use mathlib.Core.Bool.{true, _&&_, and-true}
 use borrow.Author.Tests.{le-leb, lt-ltb}
 use lib.ListN.{length, drop, drop-of-length-le}
 use Rattle.lists.specs.Lists.{part, holds, zeros}
-use Rattle.model.specs.Object.{Link, widthOk}
-use Rattle.model.specs.Table.{SlotIn}
+use Rattle.model.specs.Object.{Link, slotOk}
 use Rattle.layout.specs.Words.{linkWords, linksOf, linkAt}
 use Rattle.layout.specs.Fields.{fieldTests, fieldsOk}
 use Rattle.layout.proofs.Links.{linksOf-next}
 
 -- a field that passes the other tests is right exactly if its bytes are zero
-pub field-bytes : (kids from : ℕ) (bs : List ℕ) (l : Link) → SlotIn from (length bs) (l .slot) → widthOk (l .slot .width) ≡ true → l .child < kids
+pub field-bytes : (kids from : ℕ) (bs : List ℕ) (l : Link) → from ≤ l .slot .at → slotOk (l .slot) ≡ true → l .slot .at + l .slot .width ≤ length bs → l .child < kids
     → zeros (part (l .slot .at) (l .slot .at + l .slot .width) bs) ≡ holds (fieldTests kids from bs l)
 unfolding fieldTests holds
-field-bytes kids from bs l s wide known = rw (le-leb _ _ (s .after), wide, le-leb _ _ (s .inside), lt-ltb _ _ known, and-true)
+field-bytes kids from bs l after right inside known = rw (le-leb _ _ after, right, le-leb _ _ inside, lt-ltb _ _ known, and-true)
 
 module _ (kids from : ℕ) (bs ws : List ℕ) (i : ℕ) where
   pub fields-next : i + linkWords ≤ length ws

@@ -6,11 +6,11 @@ use mathlib.Core.Bool.{true, true≢false}
 use native.Mathlib.Omega.{arith}
 use lib.ListN.{length}
 use lib.Dec.{leb}
-use borrow.Author.Tests.{leb-false}
+use borrow.Author.Tests.{leb-false, not-false}
 use Rattle.lists.specs.Lists.{pick}
 use Rattle.answer.specs.Number.{number, noTally}
 use Rattle.model.specs.Bag.{count}
-use Rattle.model.specs.Object.{noObject, sizeOf, withBytes, withLink}
+use Rattle.model.specs.Object.{noObject, sizeOf, withBytes, slotOk, newSlot, withLink}
 use Rattle.model.specs.Graph.{Graph, graphOf, reached}
 use Rattle.model.specs.Table.{Outcome, placed, overflow, arranged, tableLength, tableOf, Sized}
 use Rattle.model.specs.Reading.{Reading, readingAt, readings}
@@ -25,6 +25,7 @@ use Rattle.model.proofs.Lengths.{length-different}
 use Rattle.model.proofs.Outcomes.{placed-arranged}
 use Rattle.model.proofs.Verdicts.{passes, beside-number, refused-number}
 use Rattle.model.proofs.Twins.{distinct-id, readings-count}
+use Rattle.model.proofs.Slots.{slot-start}
 use Rattle.model.proofs.Mirrors.{Mirrors, mirrors-started, mirrors-limits, mirrors-counts, mirrors-size, mirrors-acyclic, mirrors-fields, mirrors-twin, mirrors-open, mirrors-put, mirrors-link, mirrors-close, mirrors-drop}
 
 -- ---- the calls on a session
@@ -59,9 +60,10 @@ module _ (n : Needs) {s : Session} {h : History} (m : Mirrors s h) where
   step-follows openCall = settled openCall (judgeOpen true (tallyOf s)) 0 (withOpens (noObject ∷ s .opens) s) (cc (mirrors-counts m)) refl (λ e. mirrors-open m)
   step-follows (putCall vs) =
       settled (putCall vs) (judgePut true (s .limits) (tallyOf s) (length vs)) 0 (onInnermost (withBytes vs) s) (cc (mirrors-counts m, mirrors-limits m)) refl (λ e. mirrors-put m vs)
-  step-follows (linkCall w id) =
-      settled (linkCall w id) (judgeLink true (s .limits) (tallyOf s) w id) 0 (onInnermost (withLink w id) s) (cc (mirrors-counts m, mirrors-limits m)) refl
-      (λ e. mirrors-link m w id (leb-false (length (s .closed)) id (passes _ e 3)))
+  step-follows (linkCall w id i) =
+      let slot = newSlot (sizeOf (innermost (s .opens))) w i in
+      settled (linkCall w id i) (judgeLink true (s .limits) (tallyOf s) slot id) 0 (onInnermost (withLink w id i) s) (cc (mirrors-counts m, mirrors-limits m, mirrors-size m)) refl
+      (λ e. mirrors-link m w id i (leb-false (length (s .closed)) id (passes _ e 3)) (slot-start slot (not-false (slotOk slot) (passes _ e 2))))
   step-follows closeCall =
       settled closeCall (judgeClose true (s .limits) (tallyOf s) (sizeOf (innermost (s .opens))) (twin s)) (twin s) (sealed s)
       (cc (mirrors-counts m, mirrors-limits m, mirrors-size m, mirrors-twin m)) (mirrors-twin m) (λ e. mirrors-close m)

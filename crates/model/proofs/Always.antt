@@ -1,4 +1,4 @@
--- Widths that always fit: an offset is below the sum of the sizes, and that sum is no more than all the objects hold.
+-- What an offset is at least and at most. Widths that always fit: an offset is below the sum of the sizes, and that sum is no more than all the objects hold.
 use mathlib.Core.Path.{_≡_}
 use Prim.Native.Nat.{ℕ, zero, suc, _+_, _≤_, _<_}
 use mathlib.Core.List.{List, [], _∷_, _++_}
@@ -11,11 +11,12 @@ use Rattle.lists.specs.Lists.{pick, total}
 use Rattle.big_endian.specs.BigEndian.{capacity, fits}
 use Rattle.model.specs.Bag.{count}
 use Rattle.model.specs.Object.{Link, Object, objectAt, sizeOf}
-use Rattle.model.specs.Graph.{Graph, graphOf, kids, reachDown, reached, Closed}
+use Rattle.model.specs.Graph.{Graph, graphOf, kids, reachDown, reached, Closed, ParentsFirst}
 use Rattle.model.specs.Distance.{In}
-use Rattle.model.specs.Table.{placeOf, offset}
-use Rattle.model.proofs.Before.{before-end}
+use Rattle.model.specs.Table.{placeOf, offset, Fields}
+use Rattle.model.proofs.Before.{before-end, before-behind}
 use Rattle.model.proofs.Distances.{in-kids}
+use Rattle.model.proofs.Filled.{field-room}
 
 -- ---- offsets
 
@@ -26,6 +27,11 @@ module _ (g : Graph) (o : List ℕ) (closed : Closed g o) (p : ℕ) (l : Link) (
 
   pub always-fits : (n : ℕ) → total (g .size) o ≤ n → n ≤ capacity (l .slot .width) → fits (l .slot .width) (offset (placeOf g o) p l) ≡ true
   always-fits n a b = lt-ltb (offset (placeOf g o) p l) (capacity (l .slot .width)) (omega (arith, offset-below))
+
+-- a child lies past its parent's end, so past the field: an offset is at least its field's width
+pub offset-least : (g : Graph) (o : List ℕ) → Fields g → ParentsFirst g o → (p : ℕ) (l : Link) → 0 < count p o → In l (g .links p) → l .slot .width ≤ offset (placeOf g o) p l
+unfolding offset Fields
+offset-least g o fs first p l h i = omega (arith, before-behind (g .size) g o first p (l .child) h (in-kids l (g .links p) i), field-room 0 (g .size p) l (g .links p) (fs p) i)
 
 -- ---- sizes
 

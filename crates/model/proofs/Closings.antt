@@ -64,7 +64,7 @@ module _ (n : Needs) {r : Reading} {i : ℕ} where
   known-accept (startCall m records) h s e k = absurd (s e)
   known-accept openCall h s e k = k
   known-accept (putCall vs) h s e k = k
-  known-accept (linkCall w id) h s e k = k
+  known-accept (linkCall w id i) h s e k = k
   known-accept closeCall h s e k = go (ltb (idOf h) (length (h .closed)))
     where
       go : (b : Bool) → Known r i (pick b (h .closed) (h .closed ++ (innermostReading (h .opens) ∷ [])))

@@ -30,7 +30,7 @@ Clear k (l ∷ ls) = ((k < l .slot .at) ⊎ (l .slot .at + l .slot .width ≤ k)
 
 -- a field lies in more room
 pub slot-room : {from n : ℕ} {s : Slot} → SlotIn from n s → (m k : ℕ) → m ≤ from → n ≤ k → SlotIn m k s
-slot-room f m k a b = record { after = omega (arith, f .after); inside = omega (arith, f .inside) }
+slot-room f m k a b = record { after = omega (arith, f .after); inside = omega (arith, f .inside); start = f .start }
 
 -- a field lies inside
 pub field-room : (from n : ℕ) (l : Link) (ls : List Link) → FieldsIn from n ls → In l ls → SlotIn 0 n (l .slot)

@@ -44,8 +44,8 @@ module _ (rs : List Reading) (o : Object) where
   pub read-put : (vs : List ℕ) → readObject rs (withBytes vs o) ≡ putOn vs (readObject rs o)
   read-put vs = put-links (readingAt rs) (o .links) (o .bytes) vs
 
-  pub read-link : (w id : ℕ) → readObject rs (withLink w id o) ≡ linkOn w (readingAt rs id) (readObject rs o)
-  read-link w id = rw (put-links, field-links, read-size)
+  pub read-link : (w id i : ℕ) → readObject rs (withLink w id i o) ≡ linkOn w i (readingAt rs id) (readObject rs o)
+  read-link w id i = rw (put-links, field-links, read-size)
 
 -- what readings have of their objects adds up the same
 module _ (f : Reading → ℕ) (k : Object → ℕ) (e : (rs : List Reading) (o : Object) → f (readObject rs o) ≡ k o) where
@@ -96,13 +96,13 @@ module _ {n : ℕ} {o : Object} (f : Formed n o) where
     inside = fields-room 0 (sizeOf o) (length (o .bytes ++ vs)) (o .links) (omega (arith, length-append (o .bytes) vs)) (f .inside);
   }
 
-  pub formed-link : (w id : ℕ) → id < n → Formed n (withLink w id o)
-  formed-link w id h = record {
+  pub formed-link : (w id i : ℕ) → id < n → i ≤ sizeOf o → Formed n (withLink w id i o)
+  formed-link w id i h b = record {
     low = λ c k. go c k (sameOr c id);
     inside = rw (length-append, length-replicate)
-        (fields-snoc 0 (sizeOf o) (sizeOf o + w) (o .links) (newLink w id o) (omega arith) (omega arith) (f .inside) (record { after = le-refl (sizeOf o); inside = le-refl (sizeOf o + w) }));
+        (fields-snoc 0 (sizeOf o) (sizeOf o + w) (o .links) (newLink w id i o) (omega arith) (omega arith) (f .inside) (record { after = le-refl (sizeOf o); inside = le-refl (sizeOf o + w); start = b }));
   }
     where
-      go : (c : ℕ) → 0 < count c (kidsOf (withLink w id o .links)) → Same c id → c < n
+      go : (c : ℕ) → 0 < count c (kidsOf (withLink w id i o .links)) → Same c id → c < n
       go c k (same e _ _) = omega arith
-      go c k (other _ _ z) = f .low c (omega (arith, kids-snoc c (o .links) (newLink w id o)))
+      go c k (other _ _ z) = f .low c (omega (arith, kids-snoc c (o .links) (newLink w id i o)))

@@ -10,7 +10,7 @@ pub mod Readings
 pub mod SameReading
 pub mod Lengths
 pub mod Outcomes
-pub mod Widths
+pub mod Slots
 pub mod Always
 pub mod Verdicts
 pub mod Twins

@@ -123,12 +123,12 @@ module _ {s : Session} {h : History} (m : Mirrors s h) where
       opens-mirror _ (putCall vs) (rw (inner-map rs (s .opens), others-map rs (s .opens), read-put))
       (more (formed-put (inner-formed (m .open-formed)) vs) (outer-formed (m .open-formed)))
 
-  -- the child is a closed object
-  pub mirrors-link : (w id : ℕ) → id < length (s .closed) → Mirrors (onInnermost (withLink w id) s) (accept (linkCall w id) h)
+  -- the child is a closed object, and the inner start is not past the field
+  pub mirrors-link : (w id i : ℕ) → id < length (s .closed) → i ≤ sizeOf o → Mirrors (onInnermost (withLink w id i) s) (accept (linkCall w id i) h)
   unfolding accept
-  mirrors-link w id b =
-      opens-mirror _ (linkCall w id) (rw (inner-map rs (s .opens), others-map rs (s .opens), read-link))
-      (more (formed-link (inner-formed (m .open-formed)) w id b) (outer-formed (m .open-formed)))
+  mirrors-link w id i b c =
+      opens-mirror _ (linkCall w id i) (rw (inner-map rs (s .opens), others-map rs (s .opens), read-link))
+      (more (formed-link (inner-formed (m .open-formed)) w id i b c) (outer-formed (m .open-formed)))
 
   pub mirrors-drop : Mirrors (withOpens (outer (s .opens)) s) (accept dropCall h)
   unfolding accept

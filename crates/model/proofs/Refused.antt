@@ -16,7 +16,7 @@ abbrev leaf : Object
 leaf = record { bytes = 0 ∷ 0 ∷ []; links = [] }
 
 abbrev toLeaf : Link
-toLeaf = record { slot = record { at = 0; width = 2 }; child = 0 }
+toLeaf = record { slot = record { at = 0; width = 2; inner = 0 }; child = 0 }
 
 abbrev parent : Object
 parent = record { bytes = 0 ∷ 0 ∷ []; links = toLeaf ∷ [] }

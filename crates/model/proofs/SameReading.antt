@@ -10,11 +10,13 @@ use Rattle.model.specs.Reading.{Reading, bytes, field, sameReading}
 slot-equal : (s t : Slot) → sameSlot s t ≡ true → s ≡ t
 slot-equal s t e =
     let at : s .at ≡ t .at = eqb-true _ _ (and-left (eqb (s .at) (t .at)) _ e) in
-    let width : s .width ≡ t .width = eqb-true _ _ (and-right (eqb (s .at) (t .at)) _ e) in
-    λ i. record { at = at i; width = width i }
+    let rest = and-right (eqb (s .at) (t .at)) _ e in
+    let width : s .width ≡ t .width = eqb-true _ _ (and-left (eqb (s .width) (t .width)) _ rest) in
+    let inner : s .inner ≡ t .inner = eqb-true _ _ (and-right (eqb (s .width) (t .width)) _ rest) in
+    λ i. record { at = at i; width = width i; inner = inner i }
 
 slot-self : (s : Slot) → sameSlot s s ≡ true
-slot-self s = rw (eq-eqb (s .at) (s .at) refl, eq-eqb (s .width) (s .width) refl)
+slot-self s = rw (eq-eqb (s .at) (s .at) refl, eq-eqb (s .width) (s .width) refl, eq-eqb (s .inner) (s .inner) refl)
 
 pub reading-equal : (r s : Reading) → sameReading r s ≡ true → r ≡ s
 unfolding sameReading

@@ -143,8 +143,9 @@ module _ (g : Graph) (content : ℕ → List ℕ) (o : List ℕ) (ρ : ℕ → R
 
   -- and leads to the place of its child
   leads : (i : ℕ) → 0 < count i o → (l : Link) → In l (g .links i) → target (tableOf g content o) (placeOf g o i) (l .slot) ≡ placeOf g o (l .child)
-  unfolding offset
-  leads i h l k = rw (field-holds i h l k) (omega (arith, before-behind (g .size) g o first i (l .child) h (in-kids l (g .links i) k)))
+  unfolding offset Fields
+  leads i h l k =
+      rw (field-holds i h l k) (omega (arith, before-behind (g .size) g o first i (l .child) h (in-kids l (g .links i) k), field-room 0 (g .size i) l (g .links i) (fs i) k))
 
   own : (i : ℕ) → 0 < count i o → Own (tableOf g content o) (placeOf g o i) (ρ i)
   unfolding tableOf Reads objectBytes Fields Sized lies

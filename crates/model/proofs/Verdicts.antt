@@ -29,7 +29,7 @@ passes (t ∷ ts) e i = go (t .applies) refl (passes ts) e i
 pub beside-number : (why : Refusal) (t : Tally) → beside why t ≡ pick (leb 12 (number why)) noTally t
 beside-number Refusal.NothingOpen t = refl
 beside-number Refusal.DepthFull t = refl
-beside-number Refusal.BadWidth t = refl
+beside-number Refusal.BadField t = refl
 beside-number Refusal.NotClosed t = refl
 beside-number Refusal.EmptyObject t = refl
 beside-number Refusal.StoreFull t = refl
@@ -45,7 +45,7 @@ beside-number Refusal.OutOfRange t = refl
 pub number-range : (why : Refusal) → (0 < number why) × (number why ≤ lastNumber)
 number-range Refusal.NothingOpen = (omega arith, omega arith)
 number-range Refusal.DepthFull = (omega arith, omega arith)
-number-range Refusal.BadWidth = (omega arith, omega arith)
+number-range Refusal.BadField = (omega arith, omega arith)
 number-range Refusal.NotClosed = (omega arith, omega arith)
 number-range Refusal.EmptyObject = (omega arith, omega arith)
 number-range Refusal.StoreFull = (omega arith, omega arith)

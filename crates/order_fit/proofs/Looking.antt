@@ -21,12 +21,12 @@ use Rattle.order_fit.specs.declared.Look.{Look}
 use Rattle.order_fit.specs.declared.Look.the-variants.{Fits, Over}
 use Rattle.order_fit.proofs.Summing.{order-long}
 
--- two places are read, and the offset is the one less the other
+-- two places are read, and the offset is the one less the other and the inner start
 pub offset-read : {a : Areas} {n i : ℕ} {w : List ℕ} → AtNode a n i w → (f : Field) → f .child < n
-    → getD w (a .places + f .child) 0 - getD w (a .places + i) 0 ≡ offsetBy (placesIn a w) i (linkBy f)
+    → getD w (a .places + f .child) 0 - getD w (a .places + i) 0 - f .inner ≡ offsetBy (placesIn a w) i (linkBy f)
 unfolding offset
 offset-read {a} {n} {i} {w} s f h =
-    ap₂ (λ (c o : ℕ). c - o) (region-at (a .places) (a .nodes) w (f .child) (omega arith)) (region-at (a .places) (a .nodes) w i (omega arith))
+    ap₂ (λ (c o : ℕ). c - o - f .inner) (region-at (a .places) (a .nodes) w (f .child) (omega arith)) (region-at (a .places) (a .nodes) w i (omega arith))
 
 -- t links of node i fit
 pub record Looking (a : Areas) (n i t : ℕ) (w : List ℕ) : Type 0 where

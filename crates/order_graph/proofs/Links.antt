@@ -9,7 +9,7 @@ use borrow.Author.Tests.{lt-ltb}
 use Rattle.big_endian.specs.BigEndian.{capacity}
 use Rattle.big_endian.proofs.Laws.{capacity-rises}
 use Rattle.model.specs.Object.{Link, widest}
-use Rattle.model.proofs.Widths.{width-most}
+use Rattle.model.proofs.Slots.{width-most}
 use Rattle.model.specs.Words.{linkWords, linkAt}
 use Rattle.model.specs.Distance.{weight}
 use Rattle.regions.specs.Region.{Kept}
@@ -34,7 +34,7 @@ module _ {a : Areas} {n i t : ℕ} {w : List ℕ} (s : AtLink a n i t w) where
   pub words-read : (j : ℕ) → j ≡ linksAt a (take g w) i + t * linkWords → FieldOf a n (take g w) i t (linkAt w j)
   words-read j e =
       let b : j + linkWords ≤ g = omega (arith, words-in, words-are) in
-      let is : linkOf a (take g w) i t ≡ linkAt w j = rw (← e, getD-take g w j 0 (omega arith), getD-take g w (j + 1) 0 (omega arith), getD-take g w (j + 2) 0 (omega arith)) in
+      let is : linkOf a (take g w) i t ≡ linkAt w j = rw (← e, getD-take g w j 0 (omega arith), getD-take g w (j + 1) 0 (omega arith), getD-take g w (j + 2) 0 (omega arith), getD-take g w (j + 3) 0 (omega arith)) in
       let o = s .node .graph .tidy .node i (s .node .inside) in
       subst (FieldOf a n (take g w) i t) is (record { is = refl; narrow = width-most _ (o .wide t (s .some)); known = o .known t (s .some) })
 

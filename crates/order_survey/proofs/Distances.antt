@@ -12,7 +12,7 @@ use Rattle.model.specs.Object.{Link, widest}
 use Rattle.model.specs.Words.{linkWords, linkAt}
 use Rattle.model.specs.Graph.{Graph, reached, Ranked, Acyclic}
 use Rattle.model.specs.Distance.{In, here, there, Path, start, along, Least, weight, distancesBy, distance}
-use Rattle.model.proofs.Widths.{width-most}
+use Rattle.model.proofs.Slots.{width-most}
 use Rattle.model.proofs.Reach.{reached-rooted, reached-first, reached-low}
 use Rattle.model.proofs.Distances.{in-kids, all-length, distance-least, distance-is-least}
 use Rattle.work.specs.declared.Areas.{Areas}

@@ -16,6 +16,7 @@ use Rattle.layout.specs.Decode.{closedTo, decode}
 use Rattle.layout.specs.Known.{Sound}
 use Rattle.layout.proofs.Facts.{sound-tables, sound-of}
 use Rattle.order_graph.specs.Graph.{linksFrom}
+use Rattle.model.proofs.Slots.{slot-wide}
 use Rattle.steps.proofs.Fields.{first-field, other-fields}
 use Rattle.steps.proofs.Formed.{sound-formed}
 use Rattle.steps.proofs.Tallies.{length-closed}
@@ -50,10 +51,11 @@ pub links-region : (f : List ℕ) (k j : ℕ) → j + k * linkWords ≤ length f
 unfolding linksFrom linksOf
 links-region f zero j h = refl
 links-region f (suc k) j h =
-    let n : suc k * linkWords ≡ suc (suc (suc (k * linkWords))) = omega arith in
+    let n : suc k * linkWords ≡ suc (suc (suc (suc (k * linkWords)))) = omega arith in
     let a : j + 1 + 1 ≡ j + 2 = omega arith in
-    let b : j + 2 + 1 ≡ j + linkWords = omega arith in
-    rw (n, drop-first j f (omega arith), drop-first (j + 1) f (omega arith), a, drop-first (j + 2) f (omega arith), b, links-region f k (j + linkWords) (omega arith))
+    let b : j + 2 + 1 ≡ j + 3 = omega arith in
+    let c : j + 3 + 1 ≡ j + linkWords = omega arith in
+    rw (n, drop-first j f (omega arith), drop-first (j + 1) f (omega arith), a, drop-first (j + 2) f (omega arith), b, drop-first (j + 3) f (omega arith), c, links-region f k (j + linkWords) (omega arith))
 
 -- what a right field's tests say of its link
 pub record Right (kids : ℕ) (l : Link) : Type 0 where
@@ -66,7 +68,7 @@ unfolding linksFrom
 fields-right kids from bs f zero j h t b = absurd (omega arith)
 fields-right kids from bs f (suc k) j h zero b =
     let r = first-field kids from bs (linkAt f j) (linksFrom f (j + linkWords) k) h in
-    rw (add-zero j) (record { wide = r .wide; lower = r .known })
+    rw (add-zero j) (record { wide = slot-wide (linkAt f j .slot) (r .right); lower = r .known })
 fields-right kids from bs f (suc k) j h (suc t) b =
     let l = linkAt f j in
     let e : j + linkWords + t * linkWords ≡ j + suc t * linkWords = omega arith in

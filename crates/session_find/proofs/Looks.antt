@@ -67,13 +67,16 @@ unfolding sameList linksOf
 same-links i k [] [] h m = refl
 same-links i k [] (x ∷ []) h m = absurd (omega arith)
 same-links i k [] (x ∷ y ∷ []) h m = absurd (omega arith)
-same-links i k [] (x ∷ y ∷ z ∷ w) h m = refl
+same-links i k [] (x ∷ y ∷ z ∷ []) h m = absurd (omega arith)
+same-links i k [] (x ∷ y ∷ z ∷ u ∷ w) h m = refl
 same-links i k (x ∷ []) w h m = absurd (omega arith)
 same-links i k (x ∷ y ∷ []) w h m = absurd (omega arith)
-same-links i k (x ∷ y ∷ z ∷ v) [] h m = refl
-same-links i k (x ∷ y ∷ z ∷ v) (x′ ∷ []) h m = absurd (omega arith)
-same-links i k (x ∷ y ∷ z ∷ v) (x′ ∷ y′ ∷ []) h m = absurd (omega arith)
-same-links i k (x ∷ y ∷ z ∷ v) (x′ ∷ y′ ∷ z′ ∷ w) h m = rw (same-links (i - 1) (k - 1) v w (omega arith) (omega arith), and-assoc, and-assoc)
+same-links i k (x ∷ y ∷ z ∷ []) w h m = absurd (omega arith)
+same-links i k (x ∷ y ∷ z ∷ u ∷ v) [] h m = refl
+same-links i k (x ∷ y ∷ z ∷ u ∷ v) (x′ ∷ []) h m = absurd (omega arith)
+same-links i k (x ∷ y ∷ z ∷ u ∷ v) (x′ ∷ y′ ∷ []) h m = absurd (omega arith)
+same-links i k (x ∷ y ∷ z ∷ u ∷ v) (x′ ∷ y′ ∷ z′ ∷ []) h m = absurd (omega arith)
+same-links i k (x ∷ y ∷ z ∷ u ∷ v) (x′ ∷ y′ ∷ z′ ∷ u′ ∷ w) h m = rw (same-links (i - 1) (k - 1) v w (omega arith) (omega arith), and-assoc, and-assoc, and-assoc)
 
 -- an object that lies there has these runs
 module _ {w : List ℕ} {s : Span} (objects : ℕ) (e : objects ≡ objectLimit w) (t : Tested w) where

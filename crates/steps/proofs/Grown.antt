@@ -14,7 +14,7 @@ use Rattle.lists.proofs.Over.{length-over, over-before, over-after}
 use Rattle.lists.proofs.Frames.{part-same, part-join, part-grown, part-zeros, zeros-in}
 use Rattle.answer.specs.Tally.{grown}
 use Rattle.answer.specs.declared.tally.Tally.{Tally}
-use Rattle.model.specs.Object.{Object, Link, widthOk, withBytes, newLink, withLink}
+use Rattle.model.specs.Object.{Object, Link, slotOk, withBytes, newLink, withLink}
 use Rattle.model.specs.Session.{withOpens, onInnermost}
 use Rattle.layout.specs.Words.{closedCount, openDepth, endsAt, linkEndsAt, linksAt, linkWords, linkLimit, wordsOf, linkOfWords, linksOf, top, linkTop, low, linkLow}
 use Rattle.layout.specs.Fields.{objectOk}
@@ -104,12 +104,12 @@ module _ {b w : List ℕ} (vs : List ℕ) (s : Sound b w) (h : 0 < openDepth w) 
 
 -- ---- link
 
-module _ {b w : List ℕ} (width id : ℕ) (s : Sound b w) (h : 0 < openDepth w) (r : top w + width ≤ low w) (q : linkTop w < linkLow w) where
+module _ {b w : List ℕ} (width id inner : ℕ) (s : Sound b w) (h : 0 < openDepth w) (r : top w + width ≤ low w) (q : linkTop w < linkLow w) where
   abbrev made : Link
-  made = madeLink width id w
+  made = madeLink width id inner w
 
   abbrev linkedWords : List ℕ
-  linkedWords = linkWordsOf width id w
+  linkedWords = linkWordsOf made w
 
   link-fits : linksAt w + linkTop w * linkWords + length (wordsOf made) ≤ length w
   link-fits = omega arith
@@ -144,7 +144,7 @@ module _ {b w : List ℕ} (width id : ℕ) (s : Sound b w) (h : 0 < openDepth w)
       ∙ ap₂ (λ (x y : List ℕ). x ++ y) (ap (λ (o : Object). o .bytes) (sym (inner-is b w h)))
       (part-zeros (top w) (top w + width) b (omega arith) (λ i a c. zeros-in (top w) (low w) b (s .gap) i a (omega arith)) ∙ ap (λ (k : ℕ). replicate k 0) n)
 
-  link-links : linksFrom linkedWords (linkUnder w) (linkTop w + 1) ≡ innermostIn b w .links ++ (newLink width id (innermostIn b w) ∷ [])
+  link-links : linksFrom linkedWords (linkUnder w) (linkTop w + 1) ≡ innermostIn b w .links ++ (newLink width id inner (innermostIn b w) ∷ [])
   link-links =
       let u = inner-edges b w h s in
       let a : ℕ = linksAt w + linkUnder w * linkWords in
@@ -159,10 +159,10 @@ module _ {b w : List ℕ} (width id : ℕ) (s : Sound b w) (h : 0 < openDepth w)
       ∙ linksOf-append (linkTop w - linkUnder w) (part a i w) (wordsOf made) (omega (arith, length-part a i w (omega arith)))
       ∙ ap₂ (λ (x y : List Link). x ++ y)
       (ap linksOf (sym (link-words w (linkUnder w) (linkTop w) (omega arith))) ∙ ap (λ (o : Object). o .links) (sym (inner-is b w h)))
-      (linksOf-words made ∙ ap (λ (k : ℕ). linkOfWords k width id ∷ []) (inner-size b w h s))
+      (linksOf-words made ∙ ap (λ (k : ℕ). linkOfWords k width inner id ∷ []) (inner-size b w h s))
 
-  link-grows : widthOk width ≡ true → id < closedCount w → Grows (withLink width id) (top w + width) (linkTop w + 1) b w b linkedWords
-  link-grows wide known =
+  link-grows : slotOk (made .slot) ≡ true → id < closedCount w → Grows (withLink width id inner) (top w + width) (linkTop w + 1) b w b linkedWords
+  link-grows right known =
       let over' : List ℕ = over (linksAt w + linkTop w * linkWords) (wordsOf made) w in
       let n = length-over _ (wordsOf made) w link-fits in
       let x : endsAt + openDepth w < length over' = omega arith in
@@ -181,8 +181,8 @@ module _ {b w : List ℕ} (width id : ℕ) (s : Sound b w) (h : 0 < openDepth w)
         gap = λ i a c. zeros-in (top w) (low w) b (s .gap) i (omega arith) c;
         bytes = link-bytes;
         links = link-links;
-        right = ok-link (closedCount w) (innermostIn b w) (inner-right b w h s) width id wide known;
+        right = ok-link (closedCount w) (innermostIn b w) (inner-right b w h s) width id inner (rw (inner-size b w h s) at right) known;
       }
 
-  pub link-leaves : widthOk width ≡ true → id < closedCount w → Leaves b w b linkedWords (grown width 1 (tallyIn b w)) (onInnermost (withLink width id) (decode b w))
-  link-leaves wide known = grows-leaves s h (withLink width id) (link-grows wide known) (grown width 1 (tallyIn b w)) (tally-same (omega arith) (omega arith) refl refl)
+  pub link-leaves : slotOk (made .slot) ≡ true → id < closedCount w → Leaves b w b linkedWords (grown width 1 (tallyIn b w)) (onInnermost (withLink width id inner) (decode b w))
+  link-leaves right known = grows-leaves s h (withLink width id inner) (link-grows right known) (grown width 1 (tallyIn b w)) (tally-same (omega arith) (omega arith) refl refl)

@@ -4,6 +4,8 @@ use Prim.Native.Nat.{ℕ, zero, suc, _+_, _-_, _≤_, _<_}
 use mathlib.Core.List.{List}
 use mathlib.Core.Bool.{true}
 use native.Mathlib.Omega.{arith}
+use native.Mathlib.Decide.{decLe}
+use lib.ListN.{getD}
 use Rattle.lists.specs.Lists.{part, firstThat}
 use Rattle.lists.proofs.Runs.{length-part}
 use Rattle.lists.proofs.Frames.{first-most}
@@ -63,9 +65,6 @@ module _ (b w : List ℕ) where
     pub inner-size : Sound b w → top w - under w ≡ sizeOf (innermostIn b w)
     inner-size s = sym (ap sizeOf inner-is ∙ length-part (under w) (top w) b (omega arith))
 
-    pub size-decode : sound b w ≡ true → top w - under w ≡ sizeOf (innermost (decode b w .opens))
-    size-decode s = inner-size (sound-facts b w s) ∙ ap sizeOf (sym innermost-decode)
-
     pub inner-right : Sound b w → objectOk (closedCount w) (innermostIn b w) ≡ true
     inner-right s = forAll-at (λ d. objectOk (closedCount w) (openAt b w d)) (openDepth w) (s .opens) (openDepth w - 1) (omega arith)
 
@@ -73,3 +72,15 @@ module _ (b w : List ℕ) where
     inner-edges s =
         let t = sound-tables s in
         record { rise = rising-last (t .ends) (openDepth w - 1) (omega arith); linkRise = rising-last (t .linkEnds) (openDepth w - 1) (omega arith) }
+
+  -- where nothing is open, both are 0
+  pub size-decode : sound b w ≡ true → top w - under w ≡ sizeOf (innermost (decode b w .opens))
+  unfolding decode opensTo
+  size-decode s = go (decLe 1 (openDepth w))
+    where
+      go : Dec (1 ≤ openDepth w) → top w - under w ≡ sizeOf (innermost (opensTo b w (openDepth w)))
+      go (yes h) = inner-size h (sound-facts b w s) ∙ ap sizeOf (sym (innermost-decode h))
+      go (no h) =
+          let e : openDepth w ≡ 0 = omega arith in
+          let z : top w ≡ 0 = ap (λ (n : ℕ). getD w (endsAt + n) 0) e ∙ sound-facts b w s .head .base in
+          omega arith ∙ sym (ap (λ (n : ℕ). sizeOf (innermost (opensTo b w n))) e)

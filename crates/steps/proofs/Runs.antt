@@ -19,7 +19,7 @@ unfolding step fair
 never-unsound n (startCall m records) a = fair-told _ refl a _ refl
 never-unsound n openCall a = fair-told _ refl a _ refl
 never-unsound n (putCall vs) a = fair-told _ refl a _ refl
-never-unsound n (linkCall w id) a = fair-told _ refl a _ refl
+never-unsound n (linkCall w id i) a = fair-told _ refl a _ refl
 never-unsound n closeCall a = fair-told _ refl a _ refl
 never-unsound n dropCall a = fair-told _ refl a _ refl
 never-unsound n tallyCall a = fair-told _ refl a _ refl

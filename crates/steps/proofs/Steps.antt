@@ -14,7 +14,7 @@ use Rattle.answer.specs.declared.tally.Tally.{Tally}
 use Rattle.answer.specs.declared.Refusal.{Refusal}
 use Rattle.answer.specs.declared.Refusal.the-variants as Refusal
 use Rattle.answer.specs.declared.Answer.the-variants.{Done}
-use Rattle.model.specs.Object.{sizeOf, widthOk}
+use Rattle.model.specs.Object.{sizeOf, slotOk, newSlot}
 use Rattle.model.specs.Judge.{mostOpen, Limits, Verdict, accepted, refused, verdict, judgeStart, judgeOpen, judgePut, judgeLink, judgeClose, judgeDrop, judgeTally}
 use Rattle.model.specs.Told.{doneClose, refusal, refusedTold}
 use Rattle.model.specs.Session.{Session, tallyOf, started, innermost, outer, twin, leaves, step}
@@ -25,7 +25,7 @@ use Rattle.layout.specs.Decode.{decode}
 use Rattle.layout.specs.Sound.{sound}
 use Rattle.layout.specs.Known.{Sound}
 use Rattle.layout.proofs.Facts.{sound-facts}
-use Rattle.steps.specs.Steps.{Out, outcome, tallyIn, settleStep, limitsOf, startWords, startStep, openStep, putStep, linkStep, closeStep, dropStep, tallyStep, under, closeTwin, closeNew, settleClose, twinIn}
+use Rattle.steps.specs.Steps.{Out, outcome, tallyIn, settleStep, limitsOf, startWords, startStep, openStep, putStep, madeLink, linkStep, closeStep, dropStep, tallyStep, under, closeTwin, closeNew, settleClose, twinIn}
 use Rattle.steps.specs.Runs.{StoreCall, start, open', put, link, close, drop, tally, Stores, Left, leftBy, leftByClose, stepOn, asCall, needsWith, Drawn}
 use Rattle.steps.proofs.Tallies.{tally-decode, count-decode, limits-decode}
 use Rattle.steps.proofs.Innermost.{twin-most, size-decode, twin-decode}
@@ -108,7 +108,7 @@ module _ (b w : List ℕ) (h : sound b w ≡ true) where
   judged-close = go (decLe 1 (openDepth w))
     where
       go : Dec (1 ≤ openDepth w) → judgeClose (sound b w) (limitsIn w) (tallyIn b w) (top w - under w) (twinIn b w) ≡ judgeClose true (a .limits) (tallyOf a) (sizeOf (innermost (a .opens))) (twin a)
-      go (yes k) = λ i. judgeClose (h i) (limits i) (counts i) (size-decode b w k h i) (twin-decode b w k i)
+      go (yes k) = λ i. judgeClose (h i) (limits i) (counts i) (size-decode b w h i) (twin-decode b w k i)
       go (no k) =
           let e : tallyOf a .depth ≡ 0 = sym (ap (λ (x : Tally). x .depth) counts) ∙ omega arith in
           (λ i. judgeClose (h i) (limits i) (counts i) (top w - under w) (twinIn b w))
@@ -157,12 +157,13 @@ module _ (b w : List ℕ) (h : sound b w ≡ true) where
       settled (judgePut (sound b w) (limitsIn w) (tallyIn b w) (length vs)) (judgePut true (a .limits) (tallyOf a) (length vs)) _ _
       (λ i. judgePut (h i) (limits i) (counts i) (length vs))
       (λ e. leaves-follow 0 (put-leaves vs known (some-open (eqb-false _ _ (passes _ e 1))) (room (length vs) (ltb-false _ _ (passes _ e 2)))))
-  step-follows work (link width id) =
-      settled (judgeLink (sound b w) (limitsIn w) (tallyIn b w) width id) (judgeLink true (a .limits) (tallyOf a) width id) _ _
-      (λ i. judgeLink (h i) (limits i) (counts i) width id)
+  step-follows work (link width id inner) =
+      let slot = madeLink width id inner w .slot in
+      settled (judgeLink (sound b w) (limitsIn w) (tallyIn b w) slot id) (judgeLink true (a .limits) (tallyOf a) (newSlot (sizeOf (innermost (a .opens))) width inner) id) _ _
+      (λ i. judgeLink (h i) (limits i) (counts i) (newSlot (size-decode b w h i) width inner) id)
       (λ e. leaves-follow 0
-      (link-leaves width id known (some-open (eqb-false _ _ (passes _ e 1))) (room width (ltb-false _ _ (passes _ e 5))) (link-room (leb-false _ _ (passes _ e 4)))
-      (not-false (widthOk width) (passes _ e 2)) (leb-false _ _ (passes _ e 3))))
+      (link-leaves width id inner known (some-open (eqb-false _ _ (passes _ e 1))) (room width (ltb-false _ _ (passes _ e 5))) (link-room (leb-false _ _ (passes _ e 4)))
+      (not-false (slotOk slot) (passes _ e 2)) (leb-false _ _ (passes _ e 3))))
   step-follows work close =
       judged-alike (λ x. leftByClose (settleClose x b w (pick (ltb (twinIn b w) (closedCount w)) (closeTwin b w) (closeNew b w)))) (λ x. settleCall x a (closing (twin a) (ltb (twin a) (length (a .closed)))))
       _ _ judged-close close-accepted refused-follows

@@ -1,14 +1,14 @@
 -- Each way through a call's code, as the call's definition has it.
 use mathlib.Core.Path.{_≡_}
 use Prim.Native.Nat.{ℕ, suc, _+_, _-_, _*_, _^_, _≤_, _<_}
-use mathlib.Core.List.{List, [], _∷_, append-assoc}
+use mathlib.Core.List.{List, [], _∷_}
 use mathlib.Core.Bool.{Bool, true, false, not, _&&_, and-assoc, and-true, false≢true}
 use native.Mathlib.Nat.{sub-zero, add-zero}
 use native.Mathlib.Numerals.{add-one}
 use native.Mathlib.Omega.{arith}
 use borrow.Author.Tests.{eq-eqb, ne-eqb, le-leb, lt-leb, lt-ltb, le-ltb, leb-true, not-false}
 use lib.ListN.{length, set, replicate, length-replicate}
-use lib.Seq.{set-getD, sets-eq}
+use lib.Seq.{set-getD}
 use lib.Dec.{leb, ltb}
 use Rattle.lists.specs.Lists.{over, holds}
 use Rattle.lists.proofs.Holds.{holds-at}
@@ -21,14 +21,14 @@ use Rattle.answer.specs.declared.tally.Tally.{Tally}
 use Rattle.answer.specs.declared.Refusal.{Refusal}
 use Rattle.answer.specs.declared.Refusal.the-variants as Refusal
 use Rattle.answer.specs.declared.Answer.the-variants.{Done, Refused}
-use Rattle.model.specs.Object.{Link, widthOk}
+use Rattle.model.specs.Object.{Link, slotOk}
 use Rattle.model.specs.Told.{done, refusedTold}
 use Rattle.model.specs.Judge.{mostObjects, mostLinks, mostBytes, mostOpen, Verdict, accepted, refused, Test, verdict, unsound, nothingOpen, inRange}
 use Rattle.model.proofs.Refusals.{Comes, none, this, next, verdict-is}
 use Rattle.layout.specs.declared.state.State.{State}
 use Rattle.layout.specs.Words.{openDepthAt, closedCount, openDepth, endsAt, linkEndsAt, linksBase, linksAt, linkWords, need, storeLength, linkLimit, top, linkTop, wordsOf}
 use Rattle.layout.specs.Sound.{sound}
-use Rattle.layout.specs.Known.{Innermost}
+use Rattle.layout.specs.Known.{WordsRead, Innermost}
 use Rattle.layout.specs.declared.span.Span.{Span}
 use Rattle.layout.proofs.Facts.{sound-facts, sound-known}
 use Rattle.steps.specs.Steps.{Out, outcome, tallyIn, settleStep, limitsOf, startWords, startStep, openStep, putStep, madeLink, linkWordsOf, linkStep, closeStep, droppedBytes, droppedWords, dropStep, tallyStep}
@@ -51,7 +51,7 @@ abbrev asks : StoreCall → Bool
 asks (start objects links) = false
 asks open' = true
 asks (put vs) = true
-asks (link width id) = true
+asks (link width id inner) = true
 asks close = true
 asks drop = true
 asks tally = true
@@ -61,7 +61,7 @@ unfolding stepOn openStep putStep linkStep closeStep dropStep tallyStep verdict
 unsound-told (start objects links) k e h = absurd (false≢true k)
 unsound-told open' k e h = rw (h, e)
 unsound-told (put vs) k e h = rw (h, e)
-unsound-told (link width id) k e h = rw (h, e)
+unsound-told (link width id inner) k e h = rw (h, e)
 unsound-told close k e h = rw (h, e)
 unsound-told drop k e h = rw (h, e)
 unsound-told tally k e h = rw (h, e)
@@ -169,54 +169,49 @@ module _ {b w : List ℕ} {s : State} {t : Tally} (h : Held b w s t) where
 
   -- ---- link
 
-  module _ (width id : ℕ) where
-    pub link-none : s .depth ≡ 0 → outcome (Refused Refusal.NothingOpen t) b w ≡ linkStep width id b w
+  module _ (width id inner : ℕ) where
+    abbrev made : Link
+    made = madeLink width id inner w
+
+    pub link-none : s .depth ≡ 0 → outcome (Refused Refusal.NothingOpen t) b w ≡ linkStep width id inner b w
     unfolding linkStep
     link-none k = settle-refused _ (idle k) (h .tallyIs)
 
     module _ (some : s .depth ≡ 0 → ⊥) where
-      pub link-width : not (widthOk width) ≡ true → outcome (Refused Refusal.BadWidth t) b w ≡ linkStep width id b w
+      pub link-field : not (slotOk (made .slot)) ≡ true → outcome (Refused Refusal.BadField t) b w ≡ linkStep width id inner b w
       unfolding linkStep
-      link-width k = settle-refused _ (ready some (this k)) (h .tallyIs)
+      link-field k = settle-refused _ (ready some (this k)) (h .tallyIs)
 
-      module _ (wide : not (widthOk width) ≡ false) where
-        pub link-child : t .objects ≤ id → outcome (Refused Refusal.NotClosed t) b w ≡ linkStep width id b w
+      module _ (right : not (slotOk (made .slot)) ≡ false) where
+        pub link-child : t .objects ≤ id → outcome (Refused Refusal.NotClosed t) b w ≡ linkStep width id inner b w
         unfolding linkStep
-        link-child k = settle-refused _ (ready some (next wide (this (le-leb (closedCount w) id (omega arith))))) (h .tallyIs)
+        link-child k = settle-refused _ (ready some (next right (this (le-leb (closedCount w) id (omega arith))))) (h .tallyIs)
 
         module _ (closed : id < t .objects) where
           known : leb (closedCount w) id ≡ false
           known = lt-leb (closedCount w) id (omega arith)
 
-          pub link-full : s .links ≤ t .links → outcome (Refused Refusal.LinksFull t) b w ≡ linkStep width id b w
+          pub link-full : s .links ≤ t .links → outcome (Refused Refusal.LinksFull t) b w ≡ linkStep width id inner b w
           unfolding linkStep
-          link-full k = settle-refused _ (ready some (next wide (next known (this (le-leb (linkLimit w) (tallyIn b w .links) (omega arith)))))) (h .tallyIs)
+          link-full k = settle-refused _ (ready some (next right (next known (this (le-leb (linkLimit w) (tallyIn b w .links) (omega arith)))))) (h .tallyIs)
 
           module _ (left : t .links < s .links) where
             free : leb (linkLimit w) (tallyIn b w .links) ≡ false
             free = lt-leb (linkLimit w) (tallyIn b w .links) (omega arith)
 
-            pub link-room : length b - t .bytes < width → outcome (Refused Refusal.StoreFull t) b w ≡ linkStep width id b w
+            pub link-room : length b - t .bytes < width → outcome (Refused Refusal.StoreFull t) b w ≡ linkStep width id inner b w
             unfolding linkStep
-            link-room k = settle-refused _ (ready some (next wide (next known (next free (this (full width k)))))) (h .tallyIs)
+            link-room k = settle-refused _ (ready some (next right (next known (next free (this (full width k)))))) (h .tallyIs)
 
-            pub link-done : width ≤ length b - t .bytes → outcome (Done (grown width 1 t)) b (linkWordsOf width id w) ≡ linkStep width id b w
+            pub link-done : width ≤ length b - t .bytes → outcome (Done (grown width 1 t)) b (linkWordsOf made w) ≡ linkStep width id inner b w
             unfolding linkStep
-            link-done k = rw (h .tallyIs) (settle-accepted b w (ready some (next wide (next known (next free (next (roomy width k) none))))))
+            link-done k = rw (h .tallyIs) (settle-accepted b w (ready some (next right (next known (next free (next (roomy width k) none))))))
 
--- a link's record, stored word by word
-link-stored : (i : ℕ) (l : Link) (w : List ℕ) → i + linkWords ≤ length w → set (set (set w i (l .slot .at)) (i + 1) (l .slot .width)) (i + 2) (l .child) ≡ over i (wordsOf l) w
-unfolding over
-link-stored i l w h = let e : i + 2 ≡ suc (suc i) = omega arith in rw (add-one, e) (rw append-assoc at (sets-eq (wordsOf l) w i (omega arith)))
-
-pub append-done : {w : List ℕ} {s : State} {own : Span} (width child : ℕ) → Innermost w s own → s .«link_top» < s .«link_low»
-    → let i = linksBase + s .objects * 2 + s .«link_top» * linkWords in
-    set (set (set (set (set w i (own .to - own .from)) (i + 1) width) (i + 2) child) (endsAt + s .depth) (s .top + width)) (linkEndsAt + s .depth) (s .«link_top» + 1)
-    ≡ linkWordsOf width child w
-append-done {w} {s} width child k h =
-    let long : linksBase + s .objects * 2 + s .«link_top» * linkWords + linkWords ≤ length w = omega (arith, k .words .bounds) in
-    rw (k .is, k .words .is)
-    (rw (link-stored (linksAt w + linkTop w * linkWords) (madeLink width child w) w (rw (k .words .is) at long)))
+-- behind the link's record, two ends
+pub append-done : {w : List ℕ} {s : State} (l : Link) → WordsRead w s
+    → set (set (over (linksBase + s .objects * 2 + s .«link_top» * linkWords) (wordsOf l) w) (endsAt + s .depth) (s .top + l .slot .width)) (linkEndsAt + s .depth) (s .«link_top» + 1)
+    ≡ linkWordsOf l w
+append-done l k = rw (k .is)
 
 -- a put of no bytes with an object open is accepted and changes nothing
 pub put-nothing : (b w : List ℕ) → sound b w ≡ true → 0 < openDepth w → stepOn (put []) (stores b w) ≡ left (done (tallyIn b w)) b w

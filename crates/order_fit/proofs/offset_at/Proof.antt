@@ -1,5 +1,6 @@
 -- `offset_at` meets its contract: both places lie in their area.
-use mathlib.Core.Path.{_∙_}
+use mathlib.Core.Path.{_∙_, ap}
+use Prim.Native.Nat.{ℕ, _-_}
 use borrow.Author.Needs.{needs}
 use Rattle.order_fit.proofs.Looking.{offset-read}
 use Rattle.order_fit.proofs.offset_at.Statement.{statement}
@@ -26,10 +27,13 @@ shared-slice-read-less c = search needs
 less-requires : tie.Need-less-requires
 less-requires c κs = search needs
 
+less-requires-2 : tie.Need-less-requires-2
+less-requires-2 c κs = search needs
+
 returns : tie.Need-returns
 returns c =
-    let pre = c .before .before .before .before .pre in
-    c .less .ensures ∙ offset-read (pre .0) _ (pre .1)
+    let given = c .before .before .before .before .before in
+    c .less2 .ensures ∙ ap (λ (k : ℕ). k - given .args .f .inner) (c .before .less .ensures) ∙ offset-read (given .pre .0) _ (given .pre .1)
 
 pub offset-at-spec : {M : Type 1} → statement M
 offset-at-spec =
@@ -42,4 +46,5 @@ offset-at-spec =
     mul-less
     shared-slice-read-less
     less-requires
+    less-requires-2
     returns)

@@ -31,8 +31,17 @@ mul-t17 c = search needs
 shared-slice-read-t19 : tie.Need-shared-slice-read-t19
 shared-slice-read-t19 c = search needs
 
+add-t21 : tie.Need-add-t21
+add-t21 c = search needs
+
+mul-t22 : tie.Need-mul-t22
+mul-t22 c = search needs
+
+shared-slice-read-t24 : tie.Need-shared-slice-read-t24
+shared-slice-read-t24 c = search needs
+
 returns : tie.Need-returns
-returns c = words-read (c .before .before .before .before .before .pre) _ (c .before .before .before .words-at .ensures .1)
+returns c = words-read (c .before .before .before .before .before .before .pre) _ (c .before .before .before .before .words-at .ensures .1)
 
 pub field-at-spec : {M : Type 1} → statement M
 field-at-spec =
@@ -47,4 +56,7 @@ field-at-spec =
     add-t16
     mul-t17
     shared-slice-read-t19
+    add-t21
+    mul-t22
+    shared-slice-read-t24
     returns)

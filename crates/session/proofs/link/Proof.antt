@@ -26,7 +26,7 @@ same-length-2 : tie.Need-same-length-2
 same-length-2 c = refl
 
 returns-2 : tie.Need-returns-2
-returns-2 c = unsound-told (link _ _) refl (c .none .ensures) (sym (c .before .before .is-sound .ensures) ∙ c .before .if1 .left)
+returns-2 c = unsound-told (link _ _ _) refl (c .none .ensures) (sym (c .before .before .is-sound .ensures) ∙ c .before .if1 .left)
 
 pub link-spec : {M : Type 1} → statement M
 link-spec =

@@ -1,11 +1,11 @@
 -- Six ways: five refusals in their order, or a link is appended.
-use mathlib.Core.Path.{refl}
-use borrow.Author.Needs.{needs}
+use mathlib.Core.Path.{refl, _∙_}
 use borrow.Author.Tests.{not-false}
-use Rattle.model.proofs.Widths.{width-most}
+use borrow.Author.Needs.{needs}
 use Rattle.layout.proofs.Facts.{words-read}
 use Rattle.steps.proofs.Held.{held, some-open, held-bytes, room-counted, link-apart}
-use Rattle.steps.proofs.Works.{link-none, link-width, link-child, link-full, link-room, link-done}
+use Rattle.steps.proofs.Works.{link-none, link-field, link-child, link-full, link-room, link-done}
+use Rattle.session_link.proofs.Made.{made-judged, made-narrow, made-left}
 use Rattle.session_link.proofs.link_sound.Statement.{statement}
 use Rattle.session_link.proofs.link_sound.Tie as tie
 
@@ -23,23 +23,28 @@ same-length c = refl
 returns : tie.Need-returns
 returns c =
     let k = c .before .before in
-    link-none (held (k .before .read .ensures) (k .tally-of .ensures)) _ _ (c .if1 .taken)
+    link-none (held (k .before .read .ensures) (k .tally-of .ensures)) _ _ _ (c .if1 .taken)
 
-width-ok-requires : tie.Need-width-ok-requires
-width-ok-requires c κs = search needs
+made-link-requires : tie.Need-made-link-requires
+made-link-requires c κs =
+    let i1 = c .before in
+    let k = i1 .before .before in
+    let h = held (k .before .read .ensures) (k .tally-of .ensures) in
+    (words-read (h .counts), some-open (i1 .if1 .left))
+
+slot-ok-requires : tie.Need-slot-ok-requires
+slot-ok-requires c κs = search needs
 
 same-length-2 : tie.Need-same-length-2
 same-length-2 c = refl
 
 returns-2 : tie.Need-returns-2
 returns-2 c =
-    let i1 = c .before .before in
+    let made = c .before .before in
+    let i1 = made .before .before in
     let k = i1 .before .before in
     let h = held (k .before .read .ensures) (k .tally-of .ensures) in
-    link-width h _ _ (i1 .if1 .left) (rw (c .before .width-ok .ensures) at (c .if2 .taken))
-
-cast-if3 : tie.Need-cast-if3
-cast-if3 c = search needs
+    link-field h _ _ _ (i1 .if1 .left) (rw (made-judged (made .made-link .ensures) (c .before .slot-ok .ensures)) at (c .if2 .taken))
 
 same-length-3 : tie.Need-same-length-3
 same-length-3 c = refl
@@ -47,10 +52,12 @@ same-length-3 c = refl
 returns-3 : tie.Need-returns-3
 returns-3 c =
     let i2 = c .before .before .before in
-    let i1 = i2 .before .before in
+    let made = i2 .before .before in
+    let i1 = made .before .before in
     let k = i1 .before .before in
     let h = held (k .before .read .ensures) (k .tally-of .ensures) in
-    link-child h _ _ (i1 .if1 .left) (rw (i2 .before .width-ok .ensures) at (i2 .if2 .left)) (c .if3 .taken)
+    let right = rw (made-judged (made .made-link .ensures) (i2 .before .slot-ok .ensures)) at (i2 .if2 .left) in
+    link-child h _ _ _ (i1 .if1 .left) right (rw (made .made-link .ensures .childIs) at (c .if3 .taken))
 
 same-length-4 : tie.Need-same-length-4
 same-length-4 c = refl
@@ -59,15 +66,22 @@ returns-4 : tie.Need-returns-4
 returns-4 c =
     let i3 = c .before .before .before in
     let i2 = i3 .before .before .before in
-    let i1 = i2 .before .before in
+    let made = i2 .before .before in
+    let i1 = made .before .before in
     let k = i1 .before .before in
     let h = held (k .before .read .ensures) (k .tally-of .ensures) in
-    link-full h _ _ (i1 .if1 .left) (rw (i2 .before .width-ok .ensures) at (i2 .if2 .left)) (i3 .if3 .left) (c .if4 .taken)
+    let right = rw (made-judged (made .made-link .ensures) (i2 .before .slot-ok .ensures)) at (i2 .if2 .left) in
+    link-full h _ _ _ (i1 .if1 .left) right (rw (made .made-link .ensures .childIs) at (i3 .if3 .left)) (c .if4 .taken)
 
 sub-if5 : tie.Need-sub-if5
 sub-if5 c =
-    let k = c .before .before .before .before .before .before .before .before .before .before .before in
-    held-bytes (held (k .before .read .ensures) (k .tally-of .ensures))
+    let i3 = c .before .before .before .before in
+    let i2 = i3 .before .before .before in
+    let made = i2 .before .before in
+    let i1 = made .before .before in
+    let k = i1 .before .before in
+    let h = held (k .before .read .ensures) (k .tally-of .ensures) in
+    held-bytes h
 
 same-length-5 : tie.Need-same-length-5
 same-length-5 c = refl
@@ -77,20 +91,24 @@ returns-5 c =
     let i4 = c .before .before in
     let i3 = i4 .before .before .before in
     let i2 = i3 .before .before .before in
-    let i1 = i2 .before .before in
+    let made = i2 .before .before in
+    let i1 = made .before .before in
     let k = i1 .before .before in
     let h = held (k .before .read .ensures) (k .tally-of .ensures) in
-    link-room h _ _ (i1 .if1 .left) (rw (i2 .before .width-ok .ensures) at (i2 .if2 .left)) (i3 .if3 .left) (i4 .if4 .left) (c .if5 .taken)
+    let right = rw (made-judged (made .made-link .ensures) (i2 .before .slot-ok .ensures)) at (i2 .if2 .left) in
+    link-room h _ _ _ (i1 .if1 .left) right (rw (made .made-link .ensures .childIs) at (i3 .if3 .left)) (i4 .if4 .left) (rw (made .made-link .ensures .widthIs) at (c .if5 .taken))
 
 append-link-requires : tie.Need-append-link-requires
 append-link-requires c κs =
     let i4 = c .before .before .before in
     let i3 = i4 .before .before .before in
     let i2 = i3 .before .before .before in
-    let i1 = i2 .before .before in
+    let made = i2 .before .before in
+    let i1 = made .before .before in
     let k = i1 .before .before in
     let h = held (k .before .read .ensures) (k .tally-of .ensures) in
-    (words-read (h .counts), some-open (i1 .if1 .left), link-apart h (i4 .if4 .left), width-most _ (not-false _ (rw (i2 .before .width-ok .ensures) at (i2 .if2 .left))))
+    let right = rw (made-judged (made .made-link .ensures) (i2 .before .slot-ok .ensures)) at (i2 .if2 .left) in
+    (words-read (h .counts), link-apart h (i4 .if4 .left), made .made-link .ensures .held, made-narrow (made .made-link .ensures) (not-false _ right))
 
 grow-requires : tie.Need-grow-requires
 grow-requires c κs =
@@ -98,7 +116,8 @@ grow-requires c κs =
     let i4 = i5 .before .before in
     let i3 = i4 .before .before .before in
     let i2 = i3 .before .before .before in
-    let i1 = i2 .before .before in
+    let made = i2 .before .before in
+    let i1 = made .before .before in
     let k = i1 .before .before in
     let h = held (k .before .read .ensures) (k .tally-of .ensures) in
     let r = room-counted h (i5 .if5 .left) in
@@ -113,11 +132,14 @@ returns-6 c =
     let i4 = i5 .before .before in
     let i3 = i4 .before .before .before in
     let i2 = i3 .before .before .before in
-    let i1 = i2 .before .before in
+    let made = i2 .before .before in
+    let i1 = made .before .before in
     let k = i1 .before .before in
     let h = held (k .before .read .ensures) (k .tally-of .ensures) in
+    let right = rw (made-judged (made .made-link .ensures) (i2 .before .slot-ok .ensures)) at (i2 .if2 .left) in
+    let m = made .made-link .ensures in
     rw (c .grow .ensures, c .before .before .before .append-link .ensures)
-    (link-done h _ _ (i1 .if1 .left) (rw (i2 .before .width-ok .ensures) at (i2 .if2 .left)) (i3 .if3 .left) (i4 .if4 .left) (i5 .if5 .left))
+    (made-left m _ _ ∙ link-done h _ _ _ (i1 .if1 .left) right (rw (m .childIs) at (i3 .if3 .left)) (i4 .if4 .left) (rw (m .widthIs) at (i5 .if5 .left)))
 
 pub link-sound-spec : {M : Type 1} → statement M
 link-sound-spec =
@@ -127,10 +149,10 @@ link-sound-spec =
     tally-of-requires
     same-length
     returns
-    width-ok-requires
+    made-link-requires
+    slot-ok-requires
     same-length-2
     returns-2
-    cast-if3
     same-length-3
     returns-3
     same-length-4

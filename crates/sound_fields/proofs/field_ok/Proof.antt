@@ -15,12 +15,12 @@ returns : tie.Need-returns
 unfolding fieldTests
 returns c = sym (holds-not _ 0 (lt-leb _ _ (c .if1 .taken)))
 
-width-ok-requires : tie.Need-width-ok-requires
-width-ok-requires c κs = search needs
+slot-ok-requires : tie.Need-slot-ok-requires
+slot-ok-requires c κs = search needs
 
 returns-2 : tie.Need-returns-2
 unfolding fieldTests
-returns-2 c = sym (holds-not _ 1 (sym (c .before .width-ok .ensures) ∙ not-true _ (c .if2 .taken)))
+returns-2 c = sym (holds-not _ 1 (sym (c .before .slot-ok .ensures) ∙ not-true _ (c .if2 .taken)))
 
 returns-3 : tie.Need-returns-3
 unfolding fieldTests
@@ -44,9 +44,9 @@ all-zero-requires c κs = search needs
 
 returns-5 : tie.Need-returns-5
 returns-5 c =
-    let wide = sym (c .before .before .before .before .before .width-ok .ensures) ∙ not-false _ (c .before .before .before .before .if2 .left) in
+    let right = sym (c .before .before .before .before .before .slot-ok .ensures) ∙ not-false _ (c .before .before .before .before .if2 .left) in
     c .all-zero .ensures
-    ∙ field-bytes _ _ _ _ (record { after = c .before .before .before .before .before .before .if1 .left; inside = c .before .before .before .if3 .left }) wide (c .before .before .if4 .left)
+    ∙ field-bytes _ _ _ _ (c .before .before .before .before .before .before .if1 .left) right (c .before .before .before .if3 .left) (c .before .before .if4 .left)
 
 pub field-ok-spec : {M : Type 1} → statement M
 field-ok-spec =
@@ -54,7 +54,7 @@ field-ok-spec =
     (tie.spec
     add-end
     returns
-    width-ok-requires
+    slot-ok-requires
     returns-2
     returns-3
     returns-4

@@ -25,7 +25,7 @@ link-at-requires : tie.Need-link-at-requires Inv-loop μ-loop
 link-at-requires c κs = search needs
 
 field-ok-requires : tie.Need-field-ok-requires Inv-loop μ-loop
-field-ok-requires c κs = (c .link-at .ensures .at, c .link-at .ensures .width)
+field-ok-requires c κs = c .link-at .ensures .held
 
 returns : tie.Need-returns Inv-loop μ-loop
 returns c =

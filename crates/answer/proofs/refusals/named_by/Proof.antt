@@ -19,7 +19,7 @@ others = 0 ∷ 1 ∷ 2 ∷ 3 ∷ 4 ∷ 5 ∷ 6 ∷ 7 ∷ 8 ∷ 9 ∷ 11 ∷ 12 �
 unnamed : (why : Refusal) → OneOf others (tagOf the-type why) → noOverflow ≡ named why
 unnamed Refusal.NothingOpen h = refl
 unnamed Refusal.DepthFull h = refl
-unnamed Refusal.BadWidth h = refl
+unnamed Refusal.BadField h = refl
 unnamed Refusal.NotClosed h = refl
 unnamed Refusal.EmptyObject h = refl
 unnamed Refusal.StoreFull h = refl

@@ -18,12 +18,23 @@ add-word-2 c = search needs
 word-requires-3 : tie.Need-word-requires-3
 word-requires-3 c κs = search needs
 
+add-word-3 : tie.Need-add-word-3
+add-word-3 c = search needs
+
+word-requires-4 : tie.Need-word-requires-4
+word-requires-4 c κs = search needs
+
 returns : tie.Need-returns
 returns c =
-    let second = c .before .word2 .ensures in
-    let first = c .before .before .word .ensures in
-    record { is = rw (first .0, second .0, c .word3 .ensures .0); at = first .1; width = second .1 }
+    let third = c .before .word3 .ensures in
+    let second = c .before .before .word2 .ensures in
+    let first = c .before .before .before .word .ensures in
+    let fourth = c .word4 .ensures in
+    record {
+      is = rw (first .0, second .0, third .0, fourth .0);
+      held = record { at = first .1; width = second .1; inner = third .1; child = fourth .1 };
+    }
 
 pub link-at-spec : {M : Type 1} → statement M
 link-at-spec =
-    tie.close (tie.spec word-requires add-word word-requires-2 add-word-2 word-requires-3 returns)
+    tie.close (tie.spec word-requires add-word word-requires-2 add-word-2 word-requires-3 add-word-3 word-requires-4 returns)
