@@ -29,7 +29,7 @@ extern "C" {
  *
  *    1  nothing is open
  *    2  64 objects are open
- *    3  the width is not 2, 3 or 4
+ *    3  the width is not 2, 3 or 4, or the inner start is past the field
  *    4  the id is not a closed object's
  *    5  the open object has no bytes
  *    6  the byte store has no room for the new bytes
@@ -74,9 +74,10 @@ scoterlime_answer scoterlime_open(uint8_t *store, size_t n, uint32_t *records, s
  * Refused: 12, 1, 6. */
 scoterlime_answer scoterlime_put(uint8_t *store, size_t n, uint32_t *records, size_t r, const uint8_t *bytes, size_t k);
 
-/* Appends an offset field of width 2, 3 or 4 to the innermost open object; pack fills it with the way to the closed object id.
+/* Appends an offset field of width 2, 3 or 4 to the innermost open object; pack fills it with the way to the closed object id, counted from
+ * `inner` bytes into the object: 0 for its first byte, the size of a header for the byte behind it. inner is at most the object's size now.
  * Refused: 12, 1, 3, 4, 7, 6. */
-scoterlime_answer scoterlime_link(uint8_t *store, size_t n, uint32_t *records, size_t r, uint32_t width, uint32_t id);
+scoterlime_answer scoterlime_link(uint8_t *store, size_t n, uint32_t *records, size_t r, uint32_t width, uint32_t id, uint32_t inner);
 
 /* Closes the innermost open object and tells its id: that of the closed object with the same bytes and links if there is one, else the next,
  * counted from 0.
