@@ -25,7 +25,7 @@ pub struct Answer {
 pub const DONE: u64 = 0;
 pub const NOTHING_OPEN: u64 = 1;
 pub const TOO_DEEP: u64 = 2;
-pub const BAD_WIDTH: u64 = 3;
+pub const BAD_FIELD: u64 = 3;
 pub const NOT_CLOSED: u64 = 4;
 pub const EMPTY_PIECE: u64 = 5;
 pub const STORE_FULL: u64 = 6;

@@ -1,4 +1,4 @@
-//! The seventeen hand-counted cases as lists of calls.
+//! The twenty-one hand-counted cases as lists of calls.
 
 use crate::call::Call;
 use crate::limits;
@@ -55,8 +55,14 @@ impl Case {
         self.call(Call::Put(vec![byte; length]))
     }
 
+    /// A link whose offset counts from the piece's first byte.
     pub fn link(self, width: u32, id: u32) -> Case {
-        self.call(Call::Link { width, id })
+        self.link_from(width, id, 0)
+    }
+
+    /// A link with an inner start.
+    pub fn link_from(self, width: u32, id: u32, inner: u32) -> Case {
+        self.call(Call::Link { width, id, inner })
     }
 
     pub fn close(self) -> Case {
@@ -87,10 +93,23 @@ impl Case {
         filled.links(links).close()
     }
 
+    /// A closed piece of these bytes and one width-2 link to id 0 behind them,
+    /// with an inner start.
+    pub fn piece_from(self, bytes: &[u8], inner: u32) -> Case {
+        self.open().put(bytes).link_from(2, 0, inner).close()
+    }
+
     pub fn links(self, links: &[(u32, u32)]) -> Case {
         links
             .iter()
             .fold(self, |case, &(width, id)| case.link(width, id))
+    }
+
+    /// Width-2 links to id 0 with these inner starts.
+    pub fn links_from(self, inner_starts: &[u32]) -> Case {
+        inner_starts
+            .iter()
+            .fold(self, |case, &inner| case.link_from(2, 0, inner))
     }
 
     /// A closed piece of one byte many times over.
@@ -98,6 +117,9 @@ impl Case {
         self.open().fill(byte, length).close()
     }
 }
+
+/// What cases 18 to 20 have before their fields.
+const HEADER: [u8; 4] = [0, 1, 0, 2];
 
 pub fn hand_counted_cases() -> Vec<Case> {
     vec![
@@ -146,6 +168,21 @@ pub fn hand_counted_cases() -> Vec<Case> {
             .piece(b"x", &[])
             .piece(&[], &[(3, 0), (2, 0)])
             .pack(1, 6),
+        Case::new("18", 2, 1, 8)
+            .piece(b"x", &[])
+            .piece_from(&HEADER, 4)
+            .pack(1, 7),
+        Case::new("19", 2, 2, 16)
+            .piece(b"x", &[])
+            .open()
+            .put(&HEADER)
+            .link_from(2, 0, 4)
+            .link(2, 0)
+            .close()
+            .pack(1, 9),
+        case_20(),
+        case_21("21 inner start 4469", 4_469),
+        case_21("21 inner start 4468", 4_468),
     ]
 }
 
@@ -214,4 +251,27 @@ fn case_14() -> Case {
         .piece(&[], &[(4, 4), (4, 5)])
         .tally()
         .pack(6, 80_014)
+}
+
+/// An inner start past the field, and those that are not.
+fn case_20() -> Case {
+    Case::new("20", 3, 3, 19)
+        .piece(b"x", &[])
+        .open()
+        .put(&HEADER)
+        .link_from(2, 0, 5)
+        .tally()
+        .link_from(2, 0, 4)
+        .close()
+        .piece_from(&HEADER, 3)
+        .piece_from(&HEADER, 4)
+        .tally()
+}
+
+/// The root's only field is its last, at 70,002.
+fn case_21(name: &'static str, inner: u32) -> Case {
+    Case::new(name, 2, 1, 70_005)
+        .piece(b"x", &[])
+        .piece_from(&[b'r'; 70_002], inner)
+        .pack(1, 70_005)
 }

@@ -8,6 +8,8 @@ pub struct Link {
     pub place: u64,
     /// 2, 3 or 4.
     pub width: u64,
+    /// Place in its piece that its offset counts from.
+    pub inner: u64,
     pub child: usize,
 }
 
@@ -34,6 +36,7 @@ impl Graph {
                 Link {
                     place: field.place.into(),
                     width: field.width.into(),
+                    inner: field.inner.into(),
                     child: field.child as usize,
                 }
             };

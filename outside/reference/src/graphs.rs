@@ -8,7 +8,8 @@ pub struct Named {
     pub root: usize,
 }
 
-/// A piece by its size and its links' places, widths and children.
+/// A piece by its size and its links' places, widths and children; all offsets
+/// count from the piece's first byte.
 type Given<'a> = (u64, &'a [(u64, u64, usize)]);
 
 /// The last piece is the root.
@@ -20,6 +21,7 @@ fn named(name: &'static str, pieces: &[Given]) -> Named {
             .map(|&(place, width, child)| Link {
                 place,
                 width,
+                inner: 0,
                 child,
             })
             .collect(),

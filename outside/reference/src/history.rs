@@ -20,7 +20,7 @@ pub struct History {
 impl History {
     /// The history that a first start begins, if that start is accepted.
     pub fn begin(pieces: u32, links: u32, store: usize, records: usize) -> Option<History> {
-        let words = 135 + 2 * u64::from(pieces) + 3 * u64::from(links);
+        let words = 135 + 2 * u64::from(pieces) + 4 * u64::from(links);
         let accepted = (1..=16_384).contains(&pieces)
             && links <= 65_536
             && (1..=16_777_216).contains(&store)
@@ -72,27 +72,39 @@ impl History {
         self.tell(0)
     }
 
-    pub fn link(&mut self, width: u32, id: u32) -> Answer {
+    pub fn link(&mut self, width: u32, id: u32, inner: u32) -> Answer {
+        let number = self.link_number(width, id, inner);
         let child = self.reading(id).cloned();
-        let links_at_limit = self.field_sum() == self.link_limit;
-        let passes = self.passes_store(width as usize);
-        let Some(piece) = self.open.last_mut() else {
-            return self.tell(1);
+        if let (0, Some(piece), Some(child)) = (number, self.open.last_mut(), child) {
+            piece.link(width as usize, inner as usize, child);
+        }
+        self.tell(number)
+    }
+
+    /// What a link would be told now.
+    pub fn link_number(&self, width: u32, id: u32, inner: u32) -> u64 {
+        let Some(place) = self.innermost_size() else {
+            return 1;
         };
-        if ![2, 3, 4].contains(&width) {
-            return self.tell(3);
+        if ![2, 3, 4].contains(&width) || inner as usize > place {
+            return 3;
         }
-        let Some(child) = child else {
-            return self.tell(4);
-        };
-        if links_at_limit {
-            return self.tell(7);
+        if self.reading(id).is_none() {
+            return 4;
         }
-        if passes {
-            return self.tell(6);
+        if self.field_sum() == self.link_limit {
+            return 7;
         }
-        piece.link(width as usize, child);
-        self.tell(0)
+        if self.passes_store(width as usize) {
+            return 6;
+        }
+        0
+    }
+
+    /// The size of the innermost open piece, which is the place of its next
+    /// field.
+    pub fn innermost_size(&self) -> Option<usize> {
+        self.open.last().map(Draft::size)
     }
 
     pub fn close(&mut self) -> Answer {

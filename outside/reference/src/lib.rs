@@ -16,6 +16,7 @@ pub mod cases;
 pub mod graph;
 pub mod graphs;
 pub mod history;
+mod inner_traps;
 pub mod limits;
 pub mod lines;
 pub mod orders;

@@ -19,10 +19,10 @@ pub fn store_in_range(length: usize) -> bool {
 
 /// Words of the record store for the limits.
 pub fn record_need(pieces: u64, links: u64) -> u64 {
-    135 + 2 * pieces + 3 * links
+    135 + 2 * pieces + 4 * links
 }
 
 /// Words of pack's work memory for the limits.
 pub fn work_need(pieces: u64, links: u64) -> u64 {
-    9 * pieces + 3 * links
+    9 * pieces + 4 * links
 }

@@ -32,7 +32,7 @@ pub fn script(call: &Call) -> String {
         Call::Open => "o".to_string(),
         Call::Put(bytes) if bytes.len() <= 16 => format!("p {}", hex(bytes)),
         Call::Put(bytes) => format!("f {} {}", bytes[0], bytes.len()),
-        Call::Link { width, id } => format!("k {width} {id}"),
+        Call::Link { width, id, inner } => format!("k {width} {id} {inner}"),
         Call::Close => "e".to_string(),
         Call::Drop => "d".to_string(),
         Call::Tally => "t".to_string(),

@@ -110,6 +110,12 @@ fn place(graph: &Graph, order: Vec<usize>) -> Placing {
     Placing { order, places }
 }
 
+/// From the inner start of a parent's link to the child, by the places of all
+/// pieces. The child stands behind its parent, the inner start is inside it.
+pub fn offset(place_of: &[u64], parent: usize, link: &Link) -> u64 {
+    place_of[link.child] - place_of[parent] - link.inner
+}
+
 /// Width 2 holds up to 65,535; widths 3 and 4 always fit.
 fn fits(link: &Link, offset: u64) -> bool {
     link.width != 2 || offset <= 65_535
@@ -129,7 +135,7 @@ impl Placing {
         let place_of = self.by_id(graph.nodes.len());
         for &parent in &self.order {
             for link in &graph.nodes[parent].links {
-                let needed = place_of[link.child] - place_of[parent];
+                let needed = offset(&place_of, parent, link);
                 if !fits(link, needed) {
                     return Some(Overflow {
                         parent,

@@ -62,7 +62,7 @@ fn write(view: &View, graph: &Graph, placing: &Placing, out: &mut [u8]) {
         let part = &mut out[begin..begin + bytes.len()];
         part.copy_from_slice(bytes);
         for link in &graph.nodes[id].links {
-            let offset = (place_of[link.child] - place_of[id]).to_be_bytes();
+            let offset = orders::offset(&place_of, id, link).to_be_bytes();
             let (field, width) = (link.place as usize, link.width as usize);
             part[field..field + width].copy_from_slice(&offset[8 - width..]);
         }

@@ -24,3 +24,24 @@ impl Numbers {
         choices[self.below(choices.len())]
     }
 }
+
+/// An inner start that a field at this place may have: the piece's first byte,
+/// the field's place, or one between.
+pub fn allowed_inner(place: usize, numbers: &mut Numbers) -> usize {
+    match numbers.below(4) {
+        0 => 0,
+        1 => place,
+        _ => numbers.below(place + 1),
+    }
+}
+
+/// Any inner start, mostly one that is allowed.
+pub fn any_inner(place: usize, numbers: &mut Numbers) -> u32 {
+    let allowed = allowed_inner(place, numbers) as u32;
+    match numbers.below(40) {
+        0..=1 => place as u32 + 1,
+        2 => allowed + numbers.one_of(&[1 << 8, 1 << 16, 1 << 24, 1 << 31]),
+        3 => u32::MAX - numbers.below(5) as u32,
+        _ => allowed,
+    }
+}

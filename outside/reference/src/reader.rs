@@ -33,7 +33,7 @@ pub fn check(table: &[u8], reading: &Rc<Reading>) -> Result<(), Fault> {
         }
         for field in reading.fields() {
             let offset = big_endian(&part[field.place..field.place + field.width]);
-            waiting.push((place + offset, &field.child));
+            waiting.push((place + field.inner as u64 + offset, &field.child));
         }
     }
     Ok(())

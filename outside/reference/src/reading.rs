@@ -1,7 +1,8 @@
-//! Readings: a piece's bytes, its fields' places and widths, and the reading
-//! of each field's child.
+//! Readings: a piece's bytes, its fields' places, widths and inner starts, and
+//! the reading of each field's child.
 
 use std::collections::hash_map::DefaultHasher;
+use std::collections::HashSet;
 use std::hash::{Hash, Hasher};
 use std::rc::Rc;
 
@@ -9,6 +10,7 @@ use std::rc::Rc;
 pub struct Field {
     pub place: usize,
     pub width: usize,
+    pub inner: usize,
     pub child: Rc<Reading>,
 }
 
@@ -34,12 +36,13 @@ impl Draft {
     }
 
     /// Appends a field of zero bytes.
-    pub fn link(&mut self, width: usize, child: Rc<Reading>) {
+    pub fn link(&mut self, width: usize, inner: usize, child: Rc<Reading>) {
         let place = self.bytes.len();
         self.bytes.resize(place + width, 0);
         self.fields.push(Field {
             place,
             width,
+            inner,
             child,
         });
     }
@@ -56,7 +59,7 @@ impl Draft {
         let mut hasher = DefaultHasher::new();
         self.bytes.hash(&mut hasher);
         for field in &self.fields {
-            (field.place, field.width, field.child.mark).hash(&mut hasher);
+            (field.place, field.width, field.inner, field.child.mark).hash(&mut hasher);
         }
         Rc::new(Reading {
             bytes: self.bytes.clone(),
@@ -102,10 +105,28 @@ pub fn same(one: &Rc<Reading>, other: &Rc<Reading>) -> bool {
     true
 }
 
-/// Same number of fields, at the same places, of the same widths.
+/// Same number of fields, at the same places, of the same widths and inner
+/// starts.
 fn same_fields(one: &[Field], other: &[Field]) -> bool {
-    let shape = |field: &Field| (field.place, field.width);
+    let shape = |field: &Field| (field.place, field.width, field.inner);
     one.iter().map(shape).eq(other.iter().map(shape))
+}
+
+/// Whether a field of a root, or of a piece below it, has an inner start above
+/// 0.
+pub fn has_inner_start(root: &Rc<Reading>) -> bool {
+    let mut met = HashSet::new();
+    let mut waiting = vec![root];
+    while let Some(reading) = waiting.pop() {
+        if !met.insert(Rc::as_ptr(reading)) {
+            continue;
+        }
+        if reading.fields.iter().any(|field| field.inner > 0) {
+            return true;
+        }
+        waiting.extend(reading.fields.iter().map(|field| &field.child));
+    }
+    false
 }
 
 impl Drop for Reading {

@@ -48,7 +48,7 @@ fn closed_fields_right(view: &View) -> bool {
 }
 
 /// Fields rising, apart, inside the piece, of width 2, 3 or 4 and of zero bytes,
-/// with children below a bound.
+/// with inner starts not past them and children below a bound.
 fn fields_right(view: &View, piece: &Piece, bound: usize) -> bool {
     let bytes = &view.store[piece.bytes.clone()];
     let mut free_from: u64 = 0;
@@ -57,6 +57,7 @@ fn fields_right(view: &View, piece: &Piece, bound: usize) -> bool {
         let begin = u64::from(field.place);
         let end = begin + u64::from(field.width);
         let well_placed = matches!(field.width, 2..=4)
+            && field.inner <= field.place
             && free_from <= begin
             && end <= bytes.len() as u64
             && (field.child as usize) < bound;

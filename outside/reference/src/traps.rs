@@ -2,6 +2,7 @@
 
 use crate::call::Call;
 use crate::cases::Case;
+use crate::inner_traps::inner_start_cases;
 use crate::limits;
 
 pub fn trap_cases() -> Vec<Case> {
@@ -10,6 +11,7 @@ pub fn trap_cases() -> Vec<Case> {
     cases.extend(closing_cases());
     cases.extend(start_cases());
     cases.extend(refusal_cases());
+    cases.extend(inner_start_cases());
     cases
 }
 

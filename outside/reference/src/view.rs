@@ -35,9 +35,9 @@ impl Layout {
         link_limit_word(self.pieces) + entry
     }
 
-    /// The first of the three words of a link record.
+    /// The first of the four words of a link record.
     pub fn link(self, record: usize) -> usize {
-        135 + 2 * self.pieces + 3 * record
+        135 + 2 * self.pieces + 4 * record
     }
 
     pub fn need(self) -> usize {
@@ -61,6 +61,8 @@ pub struct Piece {
 pub struct Field {
     pub place: u32,
     pub width: u32,
+    /// The place that the offset counts from.
+    pub inner: u32,
     pub child: u32,
 }
 
@@ -147,7 +149,8 @@ impl<'a> View<'a> {
         Field {
             place: self.words[first],
             width: self.words[first + 1],
-            child: self.words[first + 2],
+            inner: self.words[first + 2],
+            child: self.words[first + 3],
         }
     }
 

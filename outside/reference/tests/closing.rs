@@ -27,6 +27,38 @@ fn equal_bytes_with_different_links_keep_their_ids() {
 }
 
 #[test]
+fn pieces_that_differ_in_an_inner_start_keep_their_ids() {
+    let mut session = Session::new(7, 7, 40);
+    session.piece(b"x", &[]);
+    for inner in 0..4 {
+        assert_eq!(session.piece_from(b"abcd", inner), 1 + u64::from(inner));
+    }
+    // So do those that link them.
+    assert_eq!(session.piece(&[], &[(2, 1)]), 5);
+    assert_eq!(session.piece(&[], &[(2, 4)]), 6);
+    for inner in 0..4 {
+        assert_eq!(session.piece_from(b"abcd", inner), 1 + u64::from(inner));
+    }
+    session.open();
+    session.put(b"abcd");
+    session.link_from(2, 0, 4);
+    assert_eq!(session.close(), told(8, [35, 7, 7, 1]));
+}
+
+#[test]
+fn the_second_of_two_inner_starts_is_compared() {
+    let mut session = Session::new(4, 8, 32);
+    session.piece(b"x", &[]);
+    let mut two = |second| {
+        session.open();
+        session.link(2, 0);
+        session.link_from(2, 0, second);
+        session.close().id
+    };
+    assert_eq!([2, 1, 0, 1].map(&mut two), [1, 2, 3, 2]);
+}
+
+#[test]
 fn a_prefix_is_no_duplicate() {
     let mut session = Session::new(4, 0, 16);
     assert_eq!(session.piece(b"ab", &[]), 0);
@@ -53,7 +85,7 @@ fn an_overlapping_move() {
     session.open();
     session.link(2, 0);
     session.put(b"a");
-    session.link(2, 0);
+    session.link_from(2, 0, 1);
     session.put(b"bc");
     // The gap has 2 bytes and 1 link record, the piece 7 and 2.
     let closed = session.close();
@@ -65,9 +97,10 @@ fn an_overlapping_move() {
     assert_eq!(records[133..134 + p], [10, 9, 2]);
     assert_eq!(records[134 + p..135 + 2 * p], [3, 3, 1]);
     // The first record is vacated and keeps what it held.
-    assert_eq!(records[135 + 2 * p..], [0, 2, 0, 0, 2, 0, 3, 2, 0]);
+    let links = [[0, 2, 0, 0], [0, 2, 0, 0], [3, 2, 1, 0]].concat();
+    assert_eq!(records[135 + 2 * p..], links);
     let table = session.pack(1, 8).output;
-    assert_eq!(table, *b"\0\x07a\0\x07bcx");
+    assert_eq!(table, *b"\0\x07a\0\x06bcx");
 }
 
 #[test]

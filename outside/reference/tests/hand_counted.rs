@@ -1,4 +1,4 @@
-//! The seventeen cases counted by hand.
+//! The twenty-one cases counted by hand.
 
 mod common;
 
@@ -197,4 +197,66 @@ fn cases_16_and_17() {
     };
     assert_eq!(table(&[(3, 0)]), [0, 0, 3, 0x78]);
     assert_eq!(table(&[(3, 0), (2, 0)]), [0, 0, 5, 0, 5, 0x78]);
+}
+
+const HEADER: [u8; 4] = [0, 1, 0, 2];
+
+#[test]
+fn case_18() {
+    let mut session = Session::new(2, 1, 8);
+    session.piece(&[0x78], &[]);
+    session.piece_from(&HEADER, 4);
+    let packed = session.pack(1, 7);
+    assert_eq!(packed.answer.length, 7);
+    assert_eq!(packed.output, [0, 1, 0, 2, 0, 2, 0x78]);
+}
+
+#[test]
+fn case_19() {
+    let mut session = Session::new(2, 2, 16);
+    session.piece(&[0x78], &[]);
+    session.open();
+    session.put(&HEADER);
+    session.link_from(2, 0, 4);
+    session.link(2, 0);
+    assert_eq!(session.close().id, 1);
+    let packed = session.pack(1, 9);
+    assert_eq!(packed.answer.length, 9);
+    assert_eq!(packed.output, [0, 1, 0, 2, 0, 4, 0, 8, 0x78]);
+}
+
+#[test]
+fn case_20() {
+    let mut session = Session::new(3, 3, 19);
+    session.piece(&[0x78], &[]);
+    session.open();
+    session.put(&HEADER);
+    let before = session.stores.clone();
+    assert_eq!(session.link_from(2, 0, 5), told(3, [5, 0, 1, 1]));
+    assert_eq!(session.stores, before);
+    assert_eq!(session.link_from(2, 0, 4), told(0, [7, 1, 1, 1]));
+    assert_eq!(session.close().id, 1);
+    assert_eq!(session.piece_from(&HEADER, 3), 2);
+    assert_eq!(session.piece_from(&HEADER, 4), 1);
+    assert_eq!(session.tally(), told(0, [13, 2, 3, 0]));
+}
+
+#[test]
+fn case_21() {
+    let root = |inner| {
+        let mut session = Session::new(2, 1, 70_005);
+        session.piece(&[0x78], &[]);
+        session.piece_from(&[0x72; 70_002], inner);
+        session.pack(1, 70_005)
+    };
+    let packed = root(4_469);
+    assert_eq!(packed.answer.length, 70_005);
+    assert_eq!(packed.output[70_001..], [0x72, 0xff, 0xff, 0x78]);
+    let expected = Answer {
+        parent: 1,
+        field: 70_002,
+        needed: 65_536,
+        ..told(11, [70_005, 1, 2, 0])
+    };
+    assert_eq!(root(4_468).answer, expected);
 }

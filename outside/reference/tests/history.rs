@@ -7,7 +7,7 @@ use reference::answer::Answer;
 use reference::history::History;
 
 fn begin(pieces: u32, links: u32, store: usize) -> History {
-    let records = 135 + 2 * pieces as usize + 3 * links as usize;
+    let records = 135 + 2 * pieces as usize + 4 * links as usize;
     History::begin(pieces, links, store, records).unwrap()
 }
 
@@ -15,7 +15,7 @@ fn piece(history: &mut History, bytes: &[u8], links: &[(u32, u32)]) -> u64 {
     history.open();
     history.put(bytes);
     for &(width, id) in links {
-        assert_eq!(history.link(width, id).number, 0);
+        assert_eq!(history.link(width, id, 0).number, 0);
     }
     let closed = history.close();
     assert_eq!(closed.number, 0);
@@ -54,21 +54,41 @@ fn ids_and_sums_of_case_1() {
 fn refused_calls_change_nothing() {
     let mut history = begin(1, 1, 4);
     assert_eq!(history.put(b"abcde"), told(1, [0; 4]));
-    assert_eq!(history.link(5, 9), told(1, [0; 4]));
+    assert_eq!(history.link(5, 9, 1), told(1, [0; 4]));
     assert_eq!(history.close(), told(1, [0; 4]));
     assert_eq!(history.drop_piece(), told(1, [0; 4]));
     piece(&mut history, b"a", &[]);
     history.open();
     assert_eq!(history.close(), told(5, [1, 0, 1, 1]));
-    assert_eq!(history.link(258, u32::MAX), told(3, [1, 0, 1, 1]));
-    assert_eq!(history.link(2, u32::MAX), told(4, [1, 0, 1, 1]));
-    assert_eq!(history.link(4, 0), told(6, [1, 0, 1, 1]));
-    assert_eq!(history.link(2, 0), told(0, [3, 1, 1, 1]));
-    assert_eq!(history.link(4, 0), told(7, [3, 1, 1, 1]));
+    assert_eq!(history.link(258, u32::MAX, 0), told(3, [1, 0, 1, 1]));
+    assert_eq!(history.link(2, u32::MAX, 0), told(4, [1, 0, 1, 1]));
+    assert_eq!(history.link(4, 0, 1), told(3, [1, 0, 1, 1]));
+    assert_eq!(history.link(4, 0, 0), told(6, [1, 0, 1, 1]));
+    assert_eq!(history.link(2, 0, 0), told(0, [3, 1, 1, 1]));
+    assert_eq!(history.link(4, 0, 3), told(3, [3, 1, 1, 1]));
+    assert_eq!(history.link(4, 0, u32::MAX), told(3, [3, 1, 1, 1]));
+    assert_eq!(history.link(4, 0, 2), told(7, [3, 1, 1, 1]));
     assert_eq!(history.put(b"bc"), told(6, [3, 1, 1, 1]));
     assert_eq!(history.close(), told(8, [3, 1, 1, 1]));
     assert_eq!(history.start(0, 0, 4, 140), Answer::bare(13));
     assert_eq!(history.tally(), told(0, [3, 1, 1, 1]));
+}
+
+#[test]
+fn inner_starts_tell_pieces_apart() {
+    let mut history = begin(4, 6, 40);
+    piece(&mut history, b"x", &[]);
+    let mut from = |inner| {
+        history.open();
+        history.put(b"head");
+        assert_eq!(history.link(2, 0, inner).number, 0);
+        history.close().id
+    };
+    assert_eq!([4, 3, 4, 3].map(&mut from), [1, 2, 1, 2]);
+    assert_eq!(piece(&mut history, &[], &[(2, 1), (2, 2)]), 3);
+    assert_eq!(history.table_length(3), Some(17));
+    let fields = history.reading(1).unwrap().fields();
+    assert_eq!((fields[0].place, fields[0].inner), (4, 4));
 }
 
 #[test]

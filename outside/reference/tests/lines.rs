@@ -2,7 +2,7 @@
 
 use reference::answer::Answer;
 use reference::call::Call;
-use reference::lines::{hex, numbers, told};
+use reference::lines::{hex, numbers, script, told};
 
 #[test]
 fn one_line_a_call() {
@@ -36,4 +36,15 @@ fn one_line_a_call() {
 fn memory_as_text() {
     assert_eq!(hex(&[0, 10, 255]), "000aff");
     assert_eq!(numbers(&[4_u32, 0, 12]), "4 0 12");
+}
+
+#[test]
+fn a_link_is_three_numbers() {
+    let link = |inner| Call::Link {
+        width: 2,
+        id: 7,
+        inner,
+    };
+    assert_eq!(script(&link(0)), "k 2 7 0");
+    assert_eq!(script(&link(u32::MAX)), "k 2 7 4294967295");
 }

@@ -5,7 +5,8 @@ mod common;
 use common::Numbers;
 use reference::graph::{Graph, Link, Node};
 use reference::graphs;
-use reference::orders::{by_distance, plain, Overflow, Placing};
+use reference::orders::{by_distance, offset, plain, Overflow, Placing};
+use reference::random::allowed_inner;
 
 fn named(name: &str) -> (Graph, usize) {
     let all = graphs::all();
@@ -119,6 +120,7 @@ fn distances_pass_32_bits() {
     let link = |child| Link {
         place: 0,
         width: 4,
+        inner: 0,
         child,
     };
     let leaf = Node {
@@ -149,9 +151,11 @@ fn any_graph(numbers: &mut Numbers) -> Graph {
             place += numbers.one_of(&[0, 0, 1]);
             let width = numbers.one_of(&[2, 2, 2, 3, 4]);
             let child = numbers.below(id);
+            let inner = allowed_inner(place as usize, numbers) as u64;
             own.push(Link {
                 place,
                 width,
+                inner,
                 child,
             });
             place += width;
@@ -219,10 +223,27 @@ fn slow_order(graph: &Graph, root: usize, rank: impl Fn(usize) -> u64) -> Vec<us
     }
 }
 
+/// Of all the links that do not fit, with all sums made anew, the first.
+fn slow_overflow(graph: &Graph, order: &[usize], inner: impl Fn(&Link) -> u64) -> Option<Overflow> {
+    let place = |id: usize| -> u64 {
+        let before = order.iter().take_while(|&&other| other != id);
+        before.map(|&other| graph.nodes[other].size).sum()
+    };
+    let links = order
+        .iter()
+        .flat_map(|&id| graph.nodes[id].links.iter().map(move |link| (id, link)));
+    let mut needed = links.map(|(parent, link)| {
+        let start = place(parent) + inner(link);
+        (parent, link, place(link.child) - start)
+    });
+    let unfit = needed.find(|(_, link, needed)| *needed >= 256_u64.pow(link.width as u32));
+    unfit.and_then(|(parent, link, needed)| overflow(parent, link.place, needed))
+}
+
 #[test]
 fn both_orders_agree_with_the_definitions() {
     let mut numbers = Numbers::new(1);
-    let mut differing = 0;
+    let (mut differing, mut unfit, mut by_inner) = (0, 0, 0);
     for _ in 0..4_000 {
         let graph = any_graph(&mut numbers);
         let root = graph.nodes.len() - 1;
@@ -236,8 +257,16 @@ fn both_orders_agree_with_the_definitions() {
         let placed: u64 = first.order.iter().map(|&id| graph.nodes[id].size).sum();
         assert_eq!(graph.table_length(root), placed);
         differing += usize::from(first.order != second.order);
+        for placing in [first, second] {
+            let expected = slow_overflow(&graph, &placing.order, |link| link.inner);
+            assert_eq!(placing.overflow(&graph), expected);
+            let without = slow_overflow(&graph, &placing.order, |_| 0);
+            unfit += usize::from(expected.is_some());
+            by_inner += usize::from(expected != without);
+        }
     }
     assert!(differing > 500);
+    assert!(unfit > 500 && by_inner > 200, "{unfit} {by_inner}");
 }
 
 #[test]
@@ -250,6 +279,7 @@ fn sixteen_thousand_pieces_are_placed() {
             let links = (0..children).map(|field| Link {
                 place: 2 * field as u64,
                 width: 2,
+                inner: 0,
                 child: numbers.below(id),
             });
             let links = links.collect();
@@ -262,6 +292,7 @@ fn sixteen_thousand_pieces_are_placed() {
             .map(|child| Link {
                 place: 4 * child as u64,
                 width: 4,
+                inner: 4 * child as u64,
                 child,
             })
             .collect(),
@@ -273,7 +304,8 @@ fn sixteen_thousand_pieces_are_placed() {
         assert!(ids.into_iter().eq(0..=count));
         let place_of = placing.by_id(count + 1);
         for (id, node) in graph.nodes.iter().enumerate() {
-            assert!(node.links.iter().all(|l| place_of[l.child] > place_of[id]));
+            // Also past the inner start, so that an offset is never below 0.
+            assert!(node.links.iter().all(|l| offset(&place_of, id, l) > 0));
         }
     }
 }

@@ -4,7 +4,7 @@ mod common;
 
 use common::Session;
 use reference::answer::Answer;
-use reference::call::{Call, STALE_BYTE, STALE_WORK};
+use reference::call::{Call, Stores, Told, STALE_BYTE, STALE_WORK};
 use reference::cases::hand_counted_cases;
 use reference::limits;
 use reference::traps::trap_cases;
@@ -84,7 +84,7 @@ fn other_refusals_leave_the_work_memory() {
 fn the_need_goes_by_the_limits_and_not_by_the_counts() {
     let mut session = Session::new(16_384, 65_536, 8);
     session.piece(b"x", &[]);
-    assert_eq!(session.work, 9 * 16_384 + 3 * 65_536);
+    assert_eq!(session.work, 9 * 16_384 + 4 * 65_536);
     assert_eq!(session.pack(0, 1).answer.number, 0);
     session.work -= 1;
     assert_eq!(session.pack(0, 1).answer, Answer::bare(13));
@@ -114,6 +114,41 @@ fn offsets_at_the_edge_of_a_width_2_field() {
 }
 
 #[test]
+fn offsets_count_from_the_inner_start() {
+    let mut session = Session::new(4, 9, 64);
+    session.piece(b"x", &[]);
+    session.piece_from(b"ab", 1);
+    session.open();
+    session.put(b"head");
+    for (width, id, inner) in [(2, 1, 4), (3, 0, 0), (4, 1, 3), (2, 0, 13)] {
+        assert_eq!(session.link_from(width, id, inner).number, 0);
+    }
+    session.close();
+    // Places: the root 0, id 1 at 15, x at 19.
+    let table = b"head\0\x0b\0\0\x13\0\0\0\x0c\0\x06ab\0\x03x";
+    assert_eq!(session.pack(2, 20).output, table);
+}
+
+#[test]
+fn offsets_at_the_edge_of_a_width_2_field_from_an_inner_start() {
+    let root = |bytes: usize, inner| {
+        let mut session = Session::new(2, 1, 200_000);
+        session.piece(b"x", &[]);
+        session.piece_from(&vec![1; bytes], inner);
+        session.pack(1, 200_000).answer
+    };
+    for bytes in [65_534, 70_002, 150_000] {
+        let just = bytes as u32 - 65_533;
+        assert_eq!(root(bytes, just).length, bytes as u64 + 3);
+        let unfit = root(bytes, just - 1);
+        assert_eq!(
+            (unfit.number, unfit.parent, unfit.field, unfit.needed),
+            (11, 1, bytes as u64, 65_536)
+        );
+    }
+}
+
+#[test]
 fn all_bytes_of_wider_offsets() {
     let field = |width: u32, offset: usize| {
         let before = offset - width as usize;
@@ -129,12 +164,34 @@ fn all_bytes_of_wider_offsets() {
     assert_eq!(field(4, 16_777_215), [0, 0xff, 0xff, 0xff, b'x']);
 }
 
-fn last_answer(name: &str) -> Answer {
+#[test]
+fn the_greatest_inner_start() {
+    // The last byte of the longest store is the child's.
+    for width in [2, 3, 4] {
+        let before = 16_777_215 - width as usize;
+        let mut session = Session::new(2, 1, 16_777_216);
+        session.piece(b"x", &[]);
+        session.open();
+        session.put(&vec![1; before]);
+        let place = before as u32;
+        assert_eq!(session.link_from(width, 0, place + 1).number, 3);
+        assert_eq!(session.link_from(width, 0, place).number, 0);
+        session.close();
+        let table = session.pack(1, 16_777_216).output;
+        assert_eq!(table[16_777_213..], [0, width as u8, b'x']);
+    }
+}
+
+fn last_told(name: &str) -> Told {
     let mut all = hand_counted_cases().into_iter().chain(trap_cases());
     let case = all.find(|case| case.name == name).unwrap();
-    let mut stores = reference::call::Stores::new(case.store, case.records);
-    let answers = case.calls.iter().map(|call| stores.run(call).answer);
-    answers.last().unwrap()
+    let mut stores = Stores::new(case.store, case.records);
+    let told = case.calls.iter().map(|call| stores.run(call));
+    told.last().unwrap()
+}
+
+fn last_answer(name: &str) -> Answer {
+    last_told(name).answer
 }
 
 #[test]
@@ -151,6 +208,47 @@ fn the_distance_order_decides_what_is_told() {
         let answer = last_answer(name);
         assert_eq!((answer.number, answer.length), (0, 65_554));
     }
+}
+
+#[test]
+fn an_inner_start_decides_which_order_fits() {
+    let plain = last_told("plain order by an inner start");
+    assert_eq!(plain.answer.length, 65_540);
+    assert_eq!(plain.output[..9], *b"head\0\x08\xff\xffx");
+    let by_distance = last_told("inner start one too near");
+    assert_eq!(by_distance.answer.length, 65_541);
+    assert_eq!(by_distance.output[..10], *b"head\0\x09\0\x04yx");
+}
+
+#[test]
+fn inner_starts_weigh_nothing() {
+    // x stands at 11 and y at 14, the large leaf at 17.
+    let root = |name| {
+        let told = last_told(name);
+        assert_eq!(told.answer.length, 70_017);
+        told.output[..18].to_vec()
+    };
+    assert_eq!(
+        root("inner starts weigh nothing"),
+        *b"head\0\0\x11\0\x0b\0\x0axxxyyyl"
+    );
+    assert_eq!(
+        root("inner starts weigh nothing, the other way round"),
+        *b"head\0\0\x11\0\x07\0\x0exxxyyyl"
+    );
+}
+
+#[test]
+fn pieces_that_differ_in_an_inner_start_are_both_packed() {
+    let told = last_told("pieces that differ in an inner start");
+    assert_eq!(told.output, *b"\0\x04\0\x0aabcd\0\x0cabcd\0\x02x");
+}
+
+#[test]
+fn an_inner_start_past_16_bits_is_kept_whole() {
+    let told = last_told("inner start past 16 bits");
+    assert_eq!(told.answer.length, 65_547);
+    assert_eq!(told.output[65_540..], [0, 6, 0, 10, 0xff, 0xff, b'x']);
 }
 
 #[test]

@@ -5,10 +5,16 @@ use reference::reading::{same, Draft, Reading};
 use std::rc::Rc;
 
 fn reading(bytes: &[u8], links: &[(usize, &Rc<Reading>)]) -> Rc<Reading> {
+    let links: Vec<_> = links.iter().map(|&(w, child)| (w, 0, child)).collect();
+    reading_from(bytes, &links)
+}
+
+/// With widths, inner starts and children.
+fn reading_from(bytes: &[u8], links: &[(usize, usize, &Rc<Reading>)]) -> Rc<Reading> {
     let mut draft = Draft::default();
     draft.put(bytes);
-    for &(width, child) in links {
-        draft.link(width, Rc::clone(child));
+    for &(width, inner, child) in links {
+        draft.link(width, inner, Rc::clone(child));
     }
     draft.finish()
 }
@@ -25,6 +31,44 @@ fn readings_are_the_same_by_what_they_hold() {
     let wide = reading(&[], &[(4, &x)]);
     assert!(!same(&wide, &reading(&[], &[(2, &x), (2, &x)])));
     assert!(!same(&wide, &reading(&[0, 0], &[(2, &x)])));
+}
+
+#[test]
+fn an_inner_start_is_part_of_a_reading() {
+    let x = reading(b"x", &[]);
+    let one = |inner| reading_from(b"ab", &[(2, inner, &x)]);
+    assert!(same(&one(0), &reading(b"ab", &[(2, &x)])));
+    assert!(same(&one(2), &one(2)));
+    assert!(!same(&one(0), &one(2)));
+    assert!(!same(&one(1), &one(2)));
+    // Also of a child's reading.
+    let over = |inner| reading(&[], &[(2, &one(inner))]);
+    assert!(same(&over(1), &over(1)));
+    assert!(!same(&over(1), &over(2)));
+}
+
+#[test]
+fn a_field_leads_to_its_inner_start_and_its_number() {
+    let x = reading(b"x", &[]);
+    let root = reading_from(b"head", &[(2, 4, &x), (2, 0, &x)]);
+    assert!(shows(b"head\0\x04\0\x08x", &root));
+    // Both from the first byte, or both from the inner start.
+    assert_eq!(
+        check(b"head\0\x08\0\x08x", &root),
+        Err(Fault::PastEnd { place: 12 })
+    );
+    assert!(!shows(b"head\0\x04\0\x04x", &root));
+    // From the first byte of the piece, wherever that stands.
+    let over = reading(b"o", &[(2, &root)]);
+    assert!(shows(b"o\0\x03head\0\x04\0\x08x", &over));
+    // Counted from the table's first byte.
+    assert!(!shows(b"o\0\x03head\0\x07\0\x0bx", &over));
+    let near = reading_from(b"head", &[(2, 4, &x)]);
+    assert!(shows(b"head\0\x02x", &near));
+    assert_eq!(
+        check(b"head\0\x01x", &near),
+        Err(Fault::Differs { place: 5 })
+    );
 }
 
 #[test]

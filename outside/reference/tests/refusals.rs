@@ -3,6 +3,7 @@
 mod common;
 
 use common::{told, Session};
+use reference::answer::Answer;
 use reference::call::Call;
 use reference::session;
 
@@ -15,6 +16,44 @@ fn widths_are_not_cut_short() {
         assert_eq!(session.link(width, 0), told(3, [1, 0, 1, 1]));
         assert_eq!(session.link(width, 7), told(3, [1, 0, 1, 1]));
     }
+}
+
+#[test]
+fn inner_starts_are_not_cut_short() {
+    let mut session = Session::new(1, 9, 64);
+    session.piece(b"a", &[]);
+    session.open();
+    for place in [0, 2, 6] {
+        // Each of them cut to 8, 16 or 31 bits is not past the field.
+        let cut = [1 << 8, 1 << 16, 1 << 24, 1 << 31];
+        let far = cut.iter().flat_map(|&past| [past, past + place]);
+        for inner in far.chain([place + 1, u32::MAX - 3, u32::MAX - 1, u32::MAX]) {
+            let held = session.tally();
+            for (width, id) in [(2, 0), (3, 0), (4, 0), (2, 7), (5, 0)] {
+                let refused = session.link_from(width, id, inner);
+                assert_eq!(refused, Answer { number: 3, ..held }, "{inner}");
+            }
+        }
+        let width = if place == 0 { 2 } else { 4 };
+        assert_eq!(session.link_from(width, 0, place).number, 0);
+    }
+    assert_eq!(session.tally(), told(0, [11, 3, 1, 1]));
+}
+
+#[test]
+fn an_inner_start_goes_by_the_innermost_piece() {
+    let mut session = Session::new(2, 2, 16);
+    session.piece(b"a", &[]);
+    session.open();
+    session.put(b"four");
+    session.open();
+    assert_eq!(session.link_from(2, 0, 1), told(3, [5, 0, 1, 2]));
+    session.put(b"b");
+    assert_eq!(session.link_from(2, 0, 2), told(3, [6, 0, 1, 2]));
+    assert_eq!(session.link_from(2, 0, 1), told(0, [8, 1, 1, 2]));
+    assert_eq!(session.close().id, 1);
+    assert_eq!(session.link_from(2, 1, 5), told(3, [8, 1, 2, 1]));
+    assert_eq!(session.link_from(2, 1, 4), told(0, [10, 2, 2, 1]));
 }
 
 #[test]
@@ -93,9 +132,14 @@ fn link_tells_1_3_4_7_6_in_this_order() {
     let mut session = Session::new(1, 1, 3);
     session.piece(b"a", &[]);
     assert_eq!(session.link(5, 9).number, 1);
+    assert_eq!(session.link_from(2, 0, 1).number, 1);
     session.open();
+    assert_eq!(session.link_from(4, 0, 1), told(3, [1, 0, 1, 1]));
+    assert_eq!(session.link_from(4, 0, 0), told(6, [1, 0, 1, 1]));
     assert_eq!(session.link(2, 0), told(0, [3, 1, 1, 1]));
     assert_eq!(session.link(5, 9), told(3, [3, 1, 1, 1]));
+    assert_eq!(session.link_from(2, 9, 3), told(3, [3, 1, 1, 1]));
+    assert_eq!(session.link_from(2, 0, 3), told(3, [3, 1, 1, 1]));
     assert_eq!(session.link(2, 9), told(4, [3, 1, 1, 1]));
     assert_eq!(session.link(2, 0), told(7, [3, 1, 1, 1]));
 }
@@ -148,7 +192,7 @@ fn pack_tells_13_9_4_10_11_in_this_order() {
     let mut session = Session::new(3, 1, 70_000);
     session.piece(b"x", &[]);
     session.piece(&vec![1; 65_534], &[(2, 0)]);
-    let need = 9 * 3 + 3;
+    let need = 9 * 3 + 4;
     let pack = |id, output, work| Call::Pack { id, output, work };
     session.open();
     assert_eq!(session.run(pack(9, 0, need - 1)), told(13, [0; 4]));

@@ -9,7 +9,9 @@ use reference::call::{Call, Stores, STALE_BYTE, STALE_WORK};
 use reference::cases::{hand_counted_cases, Case};
 use reference::history::History;
 use reference::limits;
+use reference::random::{allowed_inner, any_inner};
 use reference::reader;
+use reference::reading::has_inner_start;
 use reference::traps::trap_cases;
 
 /// A session and its history, side by side.
@@ -20,6 +22,9 @@ struct Pair {
     told: [usize; 14],
     /// How many tables with more than their root were packed.
     linked: usize,
+    /// Of inner starts: accepted links with one above 0, links refused for it
+    /// alone, and packed tables with one above 0.
+    inner: [usize; 3],
 }
 
 impl Pair {
@@ -34,11 +39,23 @@ impl Pair {
             history: History::begin(pieces, links, store, records).unwrap(),
             told: [0; 14],
             linked: 0,
+            inner: [0; 3],
         }
+    }
+
+    fn count_inner(&mut self, call: &Call) {
+        let Call::Link { width, id, inner } = *call else {
+            return;
+        };
+        let number = self.history.link_number(width, id, inner);
+        let without = self.history.link_number(width, id, 0);
+        self.inner[0] += usize::from(number == 0 && inner > 0);
+        self.inner[1] += usize::from(number == 3 && without == 0);
     }
 
     fn run(&mut self, call: &Call) {
         let before = self.stores.clone();
+        self.count_inner(call);
         let told = self.stores.run(call);
         let number = told.answer.number;
         self.told[number as usize] += 1;
@@ -51,8 +68,10 @@ impl Pair {
                 };
                 assert_eq!(self.stores, before);
                 self.check_pack(id, &told.answer, &told.output, &told.work);
-                let root = self.history.reading(id).map_or(0, |root| root.size());
-                self.linked += usize::from(told.answer.length > root as u64);
+                if let (0, Some(root)) = (number, self.history.reading(id)) {
+                    self.linked += usize::from(told.answer.length > root.size() as u64);
+                    self.inner[2] += usize::from(has_inner_start(root));
+                }
             }
         }
         if number != 0 {
@@ -122,8 +141,10 @@ fn any_id(numbers: &mut Numbers, closed: usize) -> u32 {
     }
 }
 
-fn any_call(numbers: &mut Numbers, tally: Answer, most: usize) -> Call {
+fn any_call(numbers: &mut Numbers, history: &History, most: usize) -> Call {
+    let tally = history.tally();
     let closed = tally.objects as usize;
+    let place = history.innermost_size().unwrap_or(0);
     let open = Call::Open;
     let put = |numbers: &mut Numbers| {
         let length = numbers.below(most);
@@ -132,6 +153,7 @@ fn any_call(numbers: &mut Numbers, tally: Answer, most: usize) -> Call {
     let link = |numbers: &mut Numbers| Call::Link {
         width: numbers.one_of(&[2, 2, 2, 3, 4, 4, 0, 1, 5, 258]),
         id: any_id(numbers, closed),
+        inner: any_inner(place, numbers),
     };
     let pack = |numbers: &mut Numbers| Call::Pack {
         id: any_id(numbers, closed),
@@ -163,7 +185,7 @@ fn any_call(numbers: &mut Numbers, tally: Answer, most: usize) -> Call {
 #[test]
 fn many_small_runs() {
     let mut told = [0; 14];
-    let mut linked = 0;
+    let (mut linked, mut inner) = (0, [0; 3]);
     for seed in 0..4_000 {
         let mut numbers = Numbers::new(seed + 10);
         let (pieces, links) = (1 + numbers.below(12) as u32, numbers.below(17) as u32);
@@ -172,15 +194,19 @@ fn many_small_runs() {
         let records = need + numbers.below(20);
         let mut pair = Pair::begin(store, records, &Call::Start { pieces, links });
         for _ in 0..150 {
-            let tally = pair.history.tally();
-            pair.run(&any_call(&mut numbers, tally, 8));
+            let call = any_call(&mut numbers, &pair.history, 8);
+            pair.run(&call);
         }
         for (sum, count) in told.iter_mut().zip(pair.told) {
             *sum += count;
         }
         linked += pair.linked;
+        for (sum, count) in inner.iter_mut().zip(pair.inner) {
+            *sum += count;
+        }
     }
     assert!(linked > 1_000, "{linked} tables with links");
+    assert!(inner.iter().all(|&count| count > 1_000), "{inner:?}");
     for number in [0, 1, 3, 4, 5, 6, 7, 8, 9, 10, 13] {
         assert!(told[number] > 100, "{number} told {} times", told[number]);
     }
@@ -189,7 +215,7 @@ fn many_small_runs() {
 
 #[test]
 fn runs_with_large_pieces() {
-    let mut told = [0; 14];
+    let (mut told, mut inner) = ([0; 14], 0);
     for seed in 0..60 {
         let mut numbers = Numbers::new(seed + 10_000);
         let (pieces, links) = (10, 24);
@@ -206,7 +232,12 @@ fn runs_with_large_pieces() {
             for _ in 0..numbers.below(4) {
                 let width = numbers.one_of(&[2, 2, 3, 4]);
                 let child = numbers.below(id.max(1)) as u32;
-                pair.run(&Call::Link { width, id: child });
+                let place = pair.history.innermost_size().unwrap();
+                pair.run(&Call::Link {
+                    width,
+                    id: child,
+                    inner: any_inner(place, &mut numbers),
+                });
             }
             if !put_first {
                 pair.run(&Call::Put(bytes));
@@ -223,8 +254,10 @@ fn runs_with_large_pieces() {
         for (sum, count) in told.iter_mut().zip(pair.told) {
             *sum += count;
         }
+        inner += pair.inner[2];
     }
     assert!(told[11] > 20, "{told:?}");
+    assert!(inner > 100, "{inner} tables with inner starts");
 }
 
 #[test]
@@ -237,13 +270,17 @@ fn a_long_chain() {
     pair.run(&Call::Close);
     for id in 0..count - 1 {
         pair.run(&Call::Open);
-        pair.run(&Call::Link { width: 2, id });
+        pair.run(&Call::Link {
+            width: 2,
+            id,
+            inner: 0,
+        });
         pair.run(&Call::Close);
     }
     pair.run(&Call::Pack {
         id: count - 1,
         output: 1_000,
-        work: 9 * 400 + 3 * 400,
+        work: 9 * 400 + 4 * 400,
     });
     assert_eq!(pair.history.table_length(count - 1), Some(799));
     assert_eq!(pair.told[0], 3 * 400 + 1);
@@ -263,15 +300,20 @@ fn all_pieces_and_links_of_the_limits() {
             let far = numbers.below(60).min(id as usize) as u32;
             let width = numbers.one_of(&[2, 3, 4, 4]);
             let child = id.saturating_sub(1 + far);
-            pair.run(&Call::Link { width, id: child });
+            let place = pair.history.innermost_size().unwrap();
+            pair.run(&Call::Link {
+                width,
+                id: child,
+                inner: allowed_inner(place, &mut numbers) as u32,
+            });
         }
         pair.run(&Call::Close);
     }
     pair.run(&Call::Pack {
         id: pieces - 1,
         output: 300_000,
-        work: 9 * 16_384 + 3 * 65_536,
+        work: 9 * 16_384 + 4 * 65_536,
     });
     assert_eq!(pair.history.tally().objects, 16_384);
-    assert_eq!(pair.linked, 1);
+    assert_eq!((pair.linked, pair.inner[2]), (1, 1));
 }

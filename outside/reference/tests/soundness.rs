@@ -7,14 +7,15 @@ use reference::answer::Answer;
 use reference::call::{Call, Stores};
 
 /// Piece limit 4, link limit 4, 24 bytes. Closed: `x`, and `b` with a link to
-/// it. Open: `q` with a link to id 1, and `r`.
+/// it. Open: `q` with a link to id 1, and `r`. Both inner starts are at the
+/// field.
 fn sound_session() -> Session {
     let mut session = Session::new(4, 4, 24);
     session.piece(b"x", &[]);
-    session.piece(b"b", &[(2, 0)]);
+    session.piece_from(b"b", 1);
     session.open();
     session.put(b"q");
-    session.link(2, 1);
+    session.link_from(2, 1, 1);
     session.open();
     session.put(b"r");
     assert_eq!(session.tally(), told(0, [8, 2, 2, 2]));
@@ -25,14 +26,18 @@ fn calls() -> [Call; 7] {
     [
         Call::Open,
         Call::Put(b"z".to_vec()),
-        Call::Link { width: 2, id: 0 },
+        Call::Link {
+            width: 2,
+            id: 0,
+            inner: 0,
+        },
         Call::Close,
         Call::Drop,
         Call::Tally,
         Call::Pack {
             id: 0,
             output: 24,
-            work: 48,
+            work: 52,
         },
     ]
 }
@@ -91,13 +96,19 @@ fn each_word_that_counts_is_looked_at() {
         (144, 1, "width 1"),
         (144, 5, "width 5"),
         (144, 258, "width 258"),
-        (145, 2, "child of an open piece not closed"),
-        (145, u32::MAX, "child far too high"),
-        (152, 0, "closed field on a byte that is not zero"),
-        (152, 2, "closed field past its piece"),
-        (153, 4, "closed field too wide"),
-        (154, 1, "child not below its parent"),
-        (154, 2, "child of a closed piece not closed"),
+        (145, 2, "inner start past an open field"),
+        (145, 65_537, "inner start far past an open field"),
+        (145, u32::MAX, "inner start farthest past an open field"),
+        (146, 2, "child of an open piece not closed"),
+        (146, u32::MAX, "child far too high"),
+        (155, 0, "closed field on a byte that is not zero"),
+        (155, 2, "closed field past its piece"),
+        (156, 4, "closed field too wide"),
+        (157, 2, "inner start past a closed field"),
+        (157, 65_537, "inner start far past a closed field"),
+        (157, u32::MAX, "inner start farthest past a closed field"),
+        (158, 1, "child not below its parent"),
+        (158, 2, "child of a closed piece not closed"),
     ];
     for (word, value, why) in unsound {
         let mut stores = sound_session().stores;
@@ -165,7 +176,7 @@ fn every_range_has_both_its_ends() {
         // What a start with these would leave, accepted or not.
         let mut stores = Stores {
             bytes: vec![0; store],
-            records: vec![0; 135 + 2 * pieces + 3 * links],
+            records: vec![0; 135 + 2 * pieces + 4 * links],
         };
         stores.records[0] = pieces as u32;
         stores.records[133] = store as u32;
@@ -185,15 +196,44 @@ fn fields_rise_and_lie_apart() {
     session.piece(b"bb", &[(4, 0), (2, 0)]);
     let records = 135 + 2 * 2;
     let sound = session.stores.clone();
-    assert_eq!(sound.records[records..], [2, 4, 0, 6, 2, 0]);
+    assert_eq!(sound.records[records..], [2, 4, 0, 0, 6, 2, 0, 0]);
     for place in [2, 4, 5] {
         let mut stores = sound.clone();
-        stores.records[records + 3] = place;
+        stores.records[records + 4] = place;
         assert_unsound(&stores, "fields that overlap");
     }
     let mut stores = sound;
-    stores.records[records..].copy_from_slice(&[6, 2, 0, 2, 4, 0]);
+    stores.records[records..].copy_from_slice(&[6, 2, 0, 0, 2, 4, 0, 0]);
     assert_unsound(&stores, "fields that fall");
+}
+
+/// Three fields at 3, 7 and 9, closed and then open, and each inner start that
+/// is not past its own field.
+#[test]
+fn every_inner_start_up_to_the_field() {
+    for closed in [true, false] {
+        let mut session = Session::new(2, 3, 12);
+        session.piece(b"x", &[]);
+        session.open();
+        session.put(b"bbb");
+        for (width, inner) in [(4, 3), (2, 0), (2, 5)] {
+            session.link_from(width, 0, inner);
+        }
+        if closed {
+            assert_eq!(session.close().id, 1);
+        }
+        let sound = session.stores;
+        for (record, place) in [(0, 3), (1, 7), (2, 9)] {
+            let word = 139 + 4 * record;
+            assert_eq!(sound.records[word], place);
+            for inner in 0..=u32::from(u16::MAX) + 20 {
+                let mut stores = sound.clone();
+                stores.records[word + 2] = inner;
+                let tally = stores.run(&Call::Tally).answer;
+                assert_eq!(tally.number == 0, inner <= place, "{record} {inner}");
+            }
+        }
+    }
 }
 
 #[test]
@@ -204,8 +244,8 @@ fn unused_and_surplus_words_may_hold_anything() {
         .chain(71..133)
         .chain(136..138)
         .chain(141..143)
-        .chain(146..152)
-        .chain(155..160);
+        .chain(147..155)
+        .chain(159..164);
     for word in unused {
         session.stores.records[word] = u32::MAX;
         assert_eq!(session.tally(), told(0, [8, 2, 2, 2]));
@@ -218,7 +258,7 @@ fn unused_and_surplus_words_may_hold_anything() {
     assert_eq!(session.drop_piece(), told(0, [10, 3, 3, 1]));
     assert_eq!(session.close().id, 3);
     assert_eq!(session.pack(3, 24).answer.length, 7);
-    assert_eq!(session.stores.records[155..], [u32::MAX; 5]);
+    assert_eq!(session.stores.records[159..], [u32::MAX; 5]);
 }
 
 #[test]
@@ -242,7 +282,7 @@ fn slow_sound(store: &[u8], words: &[u32]) -> bool {
         let ranges = (1..=16_384).contains(&p)
             && (0..=65_536).contains(&l)
             && (1..=16_777_216).contains(&n)
-            && words.len() as i64 >= 135 + 2 * p + 3 * l
+            && words.len() as i64 >= 135 + 2 * p + 4 * l
             && word(133)? == n
             && c <= p
             && d <= 64
@@ -281,9 +321,11 @@ fn slow_sound(store: &[u8], words: &[u32]) -> bool {
             }
             let mut end = 0;
             for record in link..link + links {
-                let at = 135 + 2 * p + 3 * record;
-                let (place, width, child) = (word(at)?, word(at + 1)?, word(at + 2)?);
-                let right = place >= end && [2, 3, 4].contains(&width) && child < bound;
+                let at = 135 + 2 * p + 4 * record;
+                let (place, width, child) = (word(at)?, word(at + 1)?, word(at + 3)?);
+                let from_inside = word(at + 2)? <= place;
+                let in_order = place >= end && [2, 3, 4].contains(&width);
+                let right = in_order && from_inside && child < bound;
                 end = place + width;
                 if !right || end > size || !zero(begin + place..begin + end) {
                     return Some(false);
@@ -299,7 +341,7 @@ fn slow_sound(store: &[u8], words: &[u32]) -> bool {
 fn tampered_memory_is_judged_alike_and_never_indexed_out_of_range() {
     let mut numbers = Numbers::new(3);
     let sound = sound_session().stores;
-    let mut counts = [0; 2];
+    let (mut counts, mut by_inner) = ([0; 2], 0);
     for _ in 0..60_000 {
         let mut stores = sound.clone();
         stores.records.extend([0; 6]);
@@ -312,8 +354,8 @@ fn tampered_memory_is_judged_alike_and_never_indexed_out_of_range() {
             // Mostly words that count, whatever the record store holds.
             let word = match numbers.below(3) {
                 0 => numbers.one_of(&[0, 1, 2, 3, 4, 5, 6, 68, 69, 70, 71]),
-                1 => 133 + numbers.below(26),
-                _ => numbers.below(160),
+                1 => 133 + numbers.below(30),
+                _ => numbers.below(164),
             };
             stores.records[word] = value;
         }
@@ -321,7 +363,7 @@ fn tampered_memory_is_judged_alike_and_never_indexed_out_of_range() {
             stores.bytes[numbers.below(24)] = numbers.below(2) as u8;
         }
         if numbers.below(8) == 0 {
-            stores.records.truncate(numbers.below(162));
+            stores.records.truncate(numbers.below(166));
         }
         let expected = slow_sound(&stores.bytes, &stores.records);
         counts[usize::from(expected)] += 1;
@@ -333,16 +375,23 @@ fn tampered_memory_is_judged_alike_and_never_indexed_out_of_range() {
             }
         } else {
             assert_unsound(&stores, "tampered");
+            for word in [145, 157] {
+                if let Some(inner) = stores.records.get_mut(word) {
+                    *inner = 0;
+                }
+            }
+            by_inner += usize::from(slow_sound(&stores.bytes, &stores.records));
         }
     }
     assert!(counts[0] > 5_000 && counts[1] > 5_000, "{counts:?}");
+    assert!(by_inner > 200, "{by_inner} unsound by inner starts alone");
 }
 
 #[test]
 fn memory_full_of_anything() {
     let mut numbers = Numbers::new(4);
     for _ in 0..20_000 {
-        let mut stores = Stores::new(numbers.below(12), numbers.below(170));
+        let mut stores = Stores::new(numbers.below(12), numbers.below(174));
         let most = numbers.one_of(&[2, 5, 70, 1 << 32]);
         for word in &mut stores.records {
             *word = numbers.below(most) as u32;

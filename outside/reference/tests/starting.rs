@@ -17,7 +17,7 @@ fn start(store: usize, records: usize, pieces: u32, links: u32) -> (u64, Stores)
 #[test]
 fn every_range_has_both_its_ends() {
     // The most words that any limits here need.
-    let records = 135 + 2 * 16_385 + 3 * 65_537;
+    let records = 135 + 2 * 16_385 + 4 * 65_537;
     for (pieces, links, store, number) in [
         (0, 0, 8, 13),
         (1, 0, 8, 0),
@@ -44,22 +44,22 @@ fn every_range_has_both_its_ends() {
 
 #[test]
 fn the_need_is_exact() {
-    assert_eq!(start(8, 135 + 2 * 5 + 3 * 7, 5, 7).0, 0);
-    assert_eq!(start(8, 135 + 2 * 5 + 3 * 7 - 1, 5, 7).0, 13);
+    assert_eq!(start(8, 135 + 2 * 5 + 4 * 7, 5, 7).0, 0);
+    assert_eq!(start(8, 135 + 2 * 5 + 4 * 7 - 1, 5, 7).0, 13);
     assert_eq!(start(8, 0, 1, 0).0, 13);
     assert_eq!(start(0, 0, 1, 0).0, 13);
 }
 
 #[test]
 fn an_accepted_start_fixes_all_the_needed_words_and_no_surplus() {
-    let (number, stores) = start(9, 150, 2, 3);
+    let (number, stores) = start(9, 153, 2, 3);
     assert_eq!(number, 0);
     assert_eq!(stores.bytes, [0; 9]);
-    let mut expected = [0; 150];
+    let mut expected = [0; 153];
     expected[0] = 2;
     expected[133] = 9;
     expected[136] = 3;
-    expected[148..].fill(STALE_RECORD);
+    expected[151..].fill(STALE_RECORD);
     assert_eq!(stores.records, expected);
 }
 
@@ -81,12 +81,12 @@ fn a_restart_takes_other_limits() {
     session.piece(b"b", &[(2, 0)]);
     session.open();
     session.put(b"cc");
-    let surplus = session.stores.records[142..].to_vec();
+    let surplus = session.stores.records[143..].to_vec();
     let (pieces, links) = (2, 1);
     assert_eq!(session.run(Call::Start { pieces, links }), told(0, [0; 4]));
     assert_eq!(session.tally(), told(0, [0; 4]));
     assert_eq!(session.stores.bytes, [0; 12]);
-    assert_eq!(session.stores.records[142..], surplus);
+    assert_eq!(session.stores.records[143..], surplus);
     assert_eq!(session.piece(b"d", &[]), 0);
     assert_eq!(session.piece(b"e", &[(2, 0)]), 1);
     session.open();

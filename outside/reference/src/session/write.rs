@@ -23,16 +23,21 @@ pub fn put(store: &mut [u8], records: &mut [u32], bytes: &[u8]) -> Answer {
     done(store, records)
 }
 
-/// Appends a field of zero bytes and records it with its child.
-pub fn link(store: &[u8], records: &mut [u32], width: u32, id: u32) -> Answer {
+/// Appends a field of zero bytes and records it with its inner start and child.
+pub fn link(store: &[u8], records: &mut [u32], width: u32, id: u32, inner: u32) -> Answer {
     let Some(view) = sound(store, records) else {
         return Answer::bare(answer::NOT_SOUND);
     };
     let tally = view.tally();
-    let refusal = if view.depth() == 0 {
+    let (layout, depth) = (view.layout, view.depth());
+    let place = match depth.checked_sub(1) {
+        Some(innermost) => view.open_piece(innermost).bytes.len() as u32,
+        None => 0,
+    };
+    let refusal = if depth == 0 {
         Some(answer::NOTHING_OPEN)
-    } else if !matches!(width, 2..=4) {
-        Some(answer::BAD_WIDTH)
+    } else if !matches!(width, 2..=4) || inner > place {
+        Some(answer::BAD_FIELD)
     } else if u64::from(id) >= tally.objects {
         Some(answer::NOT_CLOSED)
     } else if tally.links == view.layout.links as u64 {
@@ -45,10 +50,8 @@ pub fn link(store: &[u8], records: &mut [u32], width: u32, id: u32) -> Answer {
     if let Some(number) = refusal {
         return Answer::with_tally_of(number, tally);
     }
-    let (layout, depth) = (view.layout, view.depth());
-    let place = view.open_piece(depth - 1).bytes.len() as u32;
     let record = layout.link(view.open_link_end(depth));
-    records[record..record + 3].copy_from_slice(&[place, width, id]);
+    records[record..record + 4].copy_from_slice(&[place, width, inner, id]);
     records[layout.open_end(depth)] += width;
     records[layout.open_link_end(depth)] += 1;
     done(store, records)

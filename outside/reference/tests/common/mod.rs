@@ -37,7 +37,11 @@ impl Session {
     }
 
     pub fn link(&mut self, width: u32, id: u32) -> Answer {
-        self.run(Call::Link { width, id })
+        self.link_from(width, id, 0)
+    }
+
+    pub fn link_from(&mut self, width: u32, id: u32, inner: u32) -> Answer {
+        self.run(Call::Link { width, id, inner })
     }
 
     pub fn close(&mut self) -> Answer {
@@ -64,6 +68,16 @@ impl Session {
         for &(width, id) in links {
             assert_eq!(self.link(width, id).number, 0);
         }
+        let closed = self.close();
+        assert_eq!(closed.number, 0);
+        closed.id
+    }
+
+    /// The same of bytes and one width-2 link to id 0, with an inner start.
+    pub fn piece_from(&mut self, bytes: &[u8], inner: u32) -> u64 {
+        assert_eq!(self.open().number, 0);
+        assert_eq!(self.put(bytes).number, 0);
+        assert_eq!(self.link_from(2, 0, inner).number, 0);
         let closed = self.close();
         assert_eq!(closed.number, 0);
         closed.id
