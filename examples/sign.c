@@ -26,12 +26,12 @@ static scoterlime_answer done(scoterlime_answer a) {
     return a;
 }
 
-/* An object of one byte and fields of width 2 to the objects named; its id. */
+/* An object of one byte and fields of width 2 to the objects named, whose offsets count from its first byte; its id. */
 static uint32_t object(uint8_t byte, const uint32_t *children, size_t count) {
     done(scoterlime_open(store, STORE, records, r));
     done(scoterlime_put(store, STORE, records, r, &byte, 1));
     for (size_t i = 0; i < count; i++)
-        done(scoterlime_link(store, STORE, records, r, 2, children[i]));
+        done(scoterlime_link(store, STORE, records, r, 2, children[i], 0));
     scoterlime_answer closed = done(scoterlime_close(store, STORE, records, r));
     tell("close", closed);
     printf("       '%c' is object %llu\n", byte, (unsigned long long)closed.id);

@@ -6,7 +6,7 @@ fn object(session: &mut Session, bytes: &[u8], children: &[u32]) -> Result<u32, 
     session.open()?;
     session.put(bytes)?;
     for &child in children {
-        session.link(2, child)?;
+        session.link(2, child, 0)?;
     }
     session.close()
 }

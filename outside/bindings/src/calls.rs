@@ -33,10 +33,10 @@ pub fn put(store: &mut [u8], records: &mut [u32], bytes: &[u8]) -> Answer {
     unsafe { foreign::scoterlime_put(store, n, records, r, bytes.as_ptr(), bytes.len()) }
 }
 
-pub fn link(store: &mut [u8], records: &mut [u32], width: u32, id: u32) -> Answer {
+pub fn link(store: &mut [u8], records: &mut [u32], width: u32, id: u32, inner: u32) -> Answer {
     let (n, r) = (store.len(), records.len());
     let (store, records) = (store.as_mut_ptr(), records.as_mut_ptr());
-    unsafe { foreign::scoterlime_link(store, n, records, r, width, id) }
+    unsafe { foreign::scoterlime_link(store, n, records, r, width, id, inner) }
 }
 
 pub fn close(store: &mut [u8], records: &mut [u32]) -> Answer {

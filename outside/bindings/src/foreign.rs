@@ -29,6 +29,7 @@ extern "C" {
         r: usize,
         width: u32,
         id: u32,
+        inner: u32,
     ) -> Answer;
     pub fn scoterlime_close(store: *mut u8, n: usize, records: *mut u32, r: usize) -> Answer;
     pub fn scoterlime_drop(store: *mut u8, n: usize, records: *mut u32, r: usize) -> Answer;

@@ -38,8 +38,10 @@ impl<'a> Session<'a> {
         told(calls::put(self.store, self.records, bytes))
     }
 
-    pub fn link(&mut self, width: u32, id: u32) -> Result<Answer, Refused> {
-        told(calls::link(self.store, self.records, width, id))
+    /// A field whose offset counts from this many bytes behind the object's
+    /// first one.
+    pub fn link(&mut self, width: u32, id: u32, inner: u32) -> Result<Answer, Refused> {
+        told(calls::link(self.store, self.records, width, id, inner))
     }
 
     /// The closed object's id.

@@ -25,7 +25,7 @@ fn a_table_is_the_front_of_the_output() {
     session.put(b"x").unwrap();
     let leaf = session.close().unwrap();
     session.open().unwrap();
-    session.link(4, leaf).unwrap();
+    session.link(4, leaf, 0).unwrap();
     let root = session.close().unwrap();
     let (mut out, mut work) = ([7; 9], vec![7; work_need(2, 1)]);
     assert_eq!(
@@ -41,6 +41,28 @@ fn a_table_is_the_front_of_the_output() {
             .number,
         10
     );
+}
+
+#[test]
+fn an_inner_start_reaches_the_library_whole() {
+    let (mut store, mut records) = ([0; 16], vec![0; records_need(2, 2)]);
+    let mut session = Session::start(&mut store, &mut records, 2, 2).unwrap();
+    session.open().unwrap();
+    session.put(b"x").unwrap();
+    let leaf = session.close().unwrap();
+    session.open().unwrap();
+    session.put(b"head").unwrap();
+    let held = session.tally().unwrap();
+    for inner in [5, 260, 65_540, 0x8000_0004, u32::MAX] {
+        let refused = session.link(2, leaf, inner).unwrap_err();
+        assert_eq!(refused.0, Answer { number: 3, ..held });
+    }
+    session.link(2, leaf, 4).unwrap();
+    session.link(2, leaf, 0).unwrap();
+    let root = session.close().unwrap();
+    let (mut out, mut work) = ([7; 9], vec![7; work_need(2, 2)]);
+    let table = session.pack(root, &mut out, &mut work).unwrap();
+    assert_eq!(table, b"head\0\x04\0\x08x");
 }
 
 #[test]
