@@ -6,7 +6,7 @@ use crate::timing::least;
 use bindings::calls;
 use compare::largest::{LINKS, LONGEST, PIECES};
 use compare::made::{self, Room};
-use compare::shapes::{Graph, Piece};
+use compare::shapes::{Graph, Link, Piece};
 use reference::call::Call;
 use reference::random::Numbers;
 use reference::session;
@@ -50,7 +50,7 @@ fn closed(bytes: usize) -> Graph {
 /// the id.
 fn piece(id: usize, below: usize, bytes: usize) -> Piece {
     let fields = if below == 0 { 0 } else { 4 };
-    let child = |field: usize| (3 + field as u32 % 2, (id * 7 + field) % below);
+    let child = |field: usize| Link::new(3 + field as u32 % 2, (id * 7 + field) % below);
     Piece {
         links: (0..fields).map(child).collect(),
         bytes: [vec![0; bytes - 8], id.to_be_bytes().to_vec()].concat(),
@@ -73,8 +73,8 @@ fn with_open(graph: &Graph, bytes: usize) -> Memory {
     };
     let new = piece(CLOSED, graph.len(), bytes);
     memory.open();
-    for (width, child) in new.links {
-        memory.link(width, child as u32);
+    for link in new.links {
+        memory.link(link.width, link.child as u32);
     }
     memory.put(&new.bytes);
     memory
@@ -132,6 +132,6 @@ fn looked_at(memory: &Memory) -> usize {
     let open_links = 0..view.open_link_end(depth);
     let links = open_links.chain(view.closed_link_begin(closed)..view.layout.links);
     let widths: Vec<u32> = links.map(|record| view.field(record).width).collect();
-    let words = 3 + 2 * (depth + 1) + 2 * (closed + 1) + 3 * widths.len();
+    let words = 3 + 2 * (depth + 1) + 2 * (closed + 1) + 4 * widths.len();
     view.between().len() + widths.iter().sum::<u32>() as usize + 4 * words
 }

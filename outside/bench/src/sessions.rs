@@ -40,7 +40,14 @@ impl Memory {
     }
 
     pub fn link(&mut self, width: u32, id: u32) {
-        accepted(calls::link(&mut self.store, &mut self.records, width, id));
+        let inner = 0;
+        accepted(calls::link(
+            &mut self.store,
+            &mut self.records,
+            width,
+            id,
+            inner,
+        ));
     }
 
     /// A closed piece: links of these widths and children, then bytes.

@@ -1,19 +1,21 @@
 //! What the history says of a call: its answer, and of a pack its number,
 //! length and table.
 
+use crate::met::Met;
 use crate::pair::Outcome;
 use reference::call::Call;
 use reference::history::History;
 use reference::limits;
 use reference::lines::script;
 use reference::reader;
-use reference::reading::Reading;
+use reference::reading::{has_inner_start, Reading};
 use reference::Answer;
 use std::rc::Rc;
 
 /// A history with the limits that it was started with.
 pub struct Claims {
     pub history: History,
+    pub met: Met,
     lengths: (usize, usize),
     need: usize,
 }
@@ -24,6 +26,7 @@ impl Claims {
         let history = History::begin(pieces, links, store, records);
         Claims {
             history: history.expect("the start is accepted"),
+            met: Met::default(),
             lengths: (store, records),
             need: limits::work_need(pieces.into(), links.into()) as usize,
         }
@@ -47,14 +50,19 @@ impl Claims {
         if let Call::Pack { id, .. } = call {
             return self.check_pack(*id, outcome);
         }
+        self.met += Met::before(call, &self.history);
+        let closed = self.history.tally().objects;
         let expected = self.history.feed(call, store, records);
         assert_eq!(Some(outcome.answer), expected, "{}", script(call));
+        if outcome.answer.objects > closed {
+            self.met += Met::closed(closed as u32, &self.history);
+        }
         if let (Call::Start { pieces, links }, 0) = (call, outcome.answer.number) {
             self.need = limits::work_need((*pieces).into(), (*links).into()) as usize;
         }
     }
 
-    fn check_pack(&self, id: u32, outcome: &Outcome) {
+    fn check_pack(&mut self, id: u32, outcome: &Outcome) {
         let answer = &outcome.answer;
         let (before, after) = &outcome.output;
         let expected = self.expected_number(id, before.len(), outcome.work.0.len());
@@ -70,6 +78,7 @@ impl Claims {
             assert_eq!(Some(answer.length), self.history.table_length(id));
             let root = self.history.reading(id).expect("a packed root is closed");
             assert_eq!(reader::check(&after[..written], root), Ok(()));
+            self.met.packed += usize::from(has_inner_start(root));
         }
         assert_eq!(before[written..], after[written..]);
         if answer.number == 11 {

@@ -1,6 +1,6 @@
 //! Graphs of as many pieces, links and bytes as the limits allow, or nearly.
 
-use crate::shapes::{self, Family, Graph, Make, Piece};
+use crate::shapes::{self, Family, Graph, Link, Make, Piece, PARTS};
 use reference::random::Numbers;
 
 pub const PIECES: usize = 16_384;
@@ -16,6 +16,8 @@ pub struct Kind {
     /// Widths of all other fields.
     pub others: &'static [u32],
     pub sizes: &'static [usize],
+    /// Whether all the root's offsets count from their fields.
+    pub at_field: bool,
     /// Links from the root to any pieces, besides those of its family.
     pub more: usize,
     /// With pieces under the root by which the plain order does not fit.
@@ -38,6 +40,7 @@ impl Kind {
             root: widths,
             others: widths,
             sizes: &[2, 9, 20],
+            at_field: false,
             more: 0,
             outlying: false,
             bytes: 0,
@@ -72,20 +75,22 @@ impl Kind {
         let mut root = graph.pop().expect("a graph has pieces");
         let narrow = usize::from(self.outlying);
         let below = graph.len();
-        let any = |_| (0, numbers.below(below));
+        // Widths of the root's are chosen below.
+        let any = |_| Link::any(0, numbers.below(below), numbers);
         root.links.extend((0..self.more).map(any));
         if self.outlying {
             graph.extend([leaf(b'l', 70_000), leaf(b's', 7)]);
-            root.links.insert(0, (3, below));
+            root.links.insert(0, Link::new(0, below));
         }
         graph.push(root);
         shapes::thicken(&mut graph, links - narrow, self.others, numbers);
         let root = &mut graph[pieces - 1];
         for link in &mut root.links {
-            link.0 = numbers.one_of(self.root);
+            link.width = numbers.one_of(self.root);
+            link.part = if self.at_field { PARTS } else { link.part };
         }
         if self.outlying {
-            root.links.push((2, below + 1));
+            root.links.push(Link::new(2, below + 1));
         }
         let rest = self.bytes.saturating_sub(shapes::bytes(&graph));
         let first = &mut graph[0].bytes;

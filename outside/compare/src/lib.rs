@@ -2,6 +2,7 @@
 //!
 //! * [`Pair`] runs each call on both and compares all that it tells and leaves.
 //! * [`claims`] checks what the history says of a call, [`Checked`] both.
+//! * [`met`] counts inner starts.
 //! * [`shapes`] and [`largest`] make graphs, [`made`] stores that hold one,
 //!   [`tamper`] damaged stores.
 
@@ -11,6 +12,7 @@ pub mod fenced;
 pub mod largest;
 pub mod lists;
 pub mod made;
+pub mod met;
 pub mod pair;
 pub mod proved;
 pub mod seed;

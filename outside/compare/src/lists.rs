@@ -3,7 +3,7 @@
 use crate::claims::Claims;
 use reference::call::Call;
 use reference::limits;
-use reference::random::Numbers;
+use reference::random::{any_inner, Numbers};
 
 /// Limits, lengths and habits of a run.
 #[derive(Clone, Copy, Debug)]
@@ -125,9 +125,11 @@ impl Style {
     }
 
     fn link(&self, claims: &Claims, numbers: &mut Numbers) -> Call {
+        let place = claims.history.innermost_size().unwrap_or(0);
         Call::Link {
             width: numbers.one_of(self.widths),
             id: any_id(claims, numbers),
+            inner: any_inner(place, numbers),
         }
     }
 

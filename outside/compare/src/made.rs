@@ -49,9 +49,10 @@ pub fn stores(graph: &Graph, room: Room, numbers: &mut Numbers) -> Stores {
         bytes[begin..end].copy_from_slice(&piece.all_bytes());
         records[layout.closed_begin(id + 1)] = begin as u32;
         records[layout.closed_link_begin(id + 1)] = first as u32;
-        for (record, (place, width, child)) in (first..).zip(piece.fields()) {
+        for (record, field) in (first..).zip(piece.fields()) {
             let word = layout.link(record);
-            records[word..word + 3].copy_from_slice(&[place as u32, width, child as u32]);
+            let words = [field.place, field.width, field.inner, field.child];
+            records[word..word + 4].copy_from_slice(&words);
         }
     }
     Stores { bytes, records }
@@ -71,8 +72,9 @@ fn reading(piece: &Piece, below: &[Rc<Reading>]) -> Rc<Reading> {
     if !piece.links_first {
         draft.put(&piece.bytes);
     }
-    for &(width, child) in &piece.links {
-        draft.link(width as usize, Rc::clone(&below[child]));
+    for field in piece.fields() {
+        let child = Rc::clone(&below[field.child as usize]);
+        draft.link(field.width as usize, field.inner as usize, child);
     }
     if piece.links_first {
         draft.put(&piece.bytes);

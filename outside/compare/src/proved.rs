@@ -25,7 +25,7 @@ impl Proved {
             Call::Start { pieces, links } => calls::start(bytes, records, *pieces, *links),
             Call::Open => calls::open(bytes, records),
             Call::Put(added) => calls::put(bytes, records, added),
-            Call::Link { width, id } => calls::link(bytes, records, *width, *id),
+            Call::Link { width, id, inner } => calls::link(bytes, records, *width, *id, *inner),
             Call::Close => calls::close(bytes, records),
             Call::Drop => calls::drop(bytes, records),
             Call::Tally => calls::tally(bytes, records),

@@ -2,33 +2,74 @@
 
 use reference::call::Call;
 use reference::random::Numbers;
+use reference::view::Field;
+
+/// A link to an earlier piece.
+#[derive(Clone, Copy, Debug, PartialEq, Eq)]
+pub struct Link {
+    pub width: u32,
+    pub child: usize,
+    /// Its inner start, by parts of the way from the piece's first byte, which
+    /// is 0, to the field, which is [`PARTS`]: wherever the field will stand,
+    /// the inner start is not past it.
+    pub part: usize,
+}
+
+pub const PARTS: usize = 16;
+
+impl Link {
+    /// A link whose offset counts from the piece's first byte.
+    pub const fn new(width: u32, child: usize) -> Link {
+        let part = 0;
+        Link { width, child, part }
+    }
+
+    pub const fn with_part(self, part: usize) -> Link {
+        Link { part, ..self }
+    }
+
+    /// A link with any inner start.
+    pub fn any(width: u32, child: usize, numbers: &mut Numbers) -> Link {
+        let part = match numbers.below(5) {
+            0..=1 => 0,
+            2 => PARTS,
+            _ => numbers.below(PARTS + 1),
+        };
+        Link { width, child, part }
+    }
+}
 
 /// A piece: links to earlier pieces first or last, and its other bytes.
 #[derive(Clone, Debug)]
 pub struct Piece {
-    pub links: Vec<(u32, usize)>,
+    pub links: Vec<Link>,
     pub bytes: Vec<u8>,
     pub links_first: bool,
 }
 
 impl Piece {
-    /// Place, width and child of each field, by rising place.
-    pub fn fields(&self) -> impl Iterator<Item = (usize, u32, usize)> + '_ {
+    /// Its fields, by rising place.
+    pub fn fields(&self) -> impl Iterator<Item = Field> + '_ {
         let first = if self.links_first {
             0
         } else {
             self.bytes.len()
         };
-        self.links.iter().scan(first, |next, &(width, child)| {
+        self.links.iter().scan(first, |next, link| {
             let place = *next;
-            *next += width as usize;
-            Some((place, width, child))
+            *next += link.width as usize;
+            Some(Field {
+                place: place as u32,
+                width: link.width,
+                inner: (place * link.part / PARTS) as u32,
+                child: link.child as u32,
+            })
         })
     }
 
     /// Bytes that it holds, fields included.
     pub fn size(&self) -> usize {
-        let fields: usize = self.links.iter().map(|&(width, _)| width as usize).sum();
+        let fields: usize = self.links.iter().map(|link| link.width as usize).sum();
         self.bytes.len() + fields
     }
 
@@ -92,7 +133,7 @@ impl Make {
         Piece {
             links: children
                 .iter()
-                .map(|&child| (numbers.one_of(self.widths), child))
+                .map(|&child| Link::any(numbers.one_of(self.widths), child, numbers))
                 .collect(),
             bytes,
             links_first: numbers.below(2) == 0,
@@ -163,6 +204,12 @@ pub fn links(graph: &Graph) -> usize {
     graph.iter().map(|piece| piece.links.len()).sum()
 }
 
+/// How many of them have an inner start above 0.
+pub fn inner_starts(graph: &Graph) -> usize {
+    let fields = graph.iter().flat_map(Piece::fields);
+    fields.filter(|field| field.inner > 0).count()
+}
+
 /// Bytes that all pieces hold, fields included.
 pub fn bytes(graph: &Graph) -> usize {
     graph.iter().map(Piece::size).sum()
@@ -176,18 +223,19 @@ pub fn thicken(graph: &mut Graph, wanted: usize, widths: &[u32], numbers: &mut N
         .collect();
     for more in 0..wanted - links(graph) {
         let own = &mut graph[parents[more % parents.len()]].links;
-        let child = own[numbers.below(own.len())].1;
-        own.push((numbers.one_of(widths), child));
+        let child = own[numbers.below(own.len())].child;
+        own.push(Link::any(numbers.one_of(widths), child, numbers));
     }
 }
 
 /// The calls that open, fill and close a piece, by the ids of those before it.
 pub fn calls(piece: &Piece, ids: &[u32]) -> Vec<Call> {
-    let link = |&(width, child): &(u32, usize)| Call::Link {
-        width,
-        id: ids[child],
+    let link = |field: Field| Call::Link {
+        width: field.width,
+        id: ids[field.child as usize],
+        inner: field.inner,
     };
-    let mut filling: Vec<Call> = piece.links.iter().map(link).collect();
+    let mut filling: Vec<Call> = piece.fields().map(link).collect();
     let at = if piece.links_first { filling.len() } else { 0 };
     filling.insert(at, Call::Put(piece.bytes.clone()));
     let mut calls = vec![Call::Open];

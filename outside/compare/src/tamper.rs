@@ -1,7 +1,8 @@
 //! Damage to the two stores, by words, by bits and by length.
 
 use reference::call::Stores;
-use reference::random::Numbers;
+use reference::random::{any_inner, Numbers};
+use reference::view::View;
 
 pub fn damage(stores: &mut Stores, numbers: &mut Numbers) {
     if stores.bytes.is_empty() || stores.records.len() < 3 {
@@ -47,6 +48,29 @@ fn a_header_word(stores: &mut Stores, numbers: &mut Numbers) {
     };
     let at = at.min(stores.records.len() - 1);
     stores.records[at] = near(stores.records[at], numbers);
+}
+
+/// The inner start of one held link of a sound session, if there is any, set to
+/// one that it may have or not. Gives whether it may.
+pub fn an_inner_start(stores: &mut Stores, numbers: &mut Numbers) -> Option<bool> {
+    let view = View::framed(&stores.bytes, &stores.records)?;
+    let open = view.open_link_end(view.depth());
+    let closed = view.closed_link_begin(view.closed())..view.layout.links;
+    // Those of open pieces are few, so they are as often chosen.
+    let record = match (open, closed.len()) {
+        (0, 0) => return None,
+        (0, held) => closed.start + numbers.below(held),
+        (_, held) if held > 0 && numbers.below(2) == 0 => closed.start + numbers.below(held),
+        _ => numbers.below(open),
+    };
+    let place = view.field(record).place;
+    let word = view.layout.link(record) + 2;
+    let inner = match numbers.below(3) {
+        0 => place + 1,
+        _ => any_inner(place as usize, numbers),
+    };
+    stores.records[word] = inner;
+    Some(inner <= place)
 }
 
 fn a_byte(stores: &mut Stores, numbers: &mut Numbers) {

@@ -2,11 +2,12 @@
 
 use compare::claims::Claims;
 use compare::lists::Style;
+use compare::met::Met;
 use compare::pair::Counts;
 use compare::{seed, Numbers, Pair};
 
 /// One list: a start on stores that hold anything, then random calls.
-fn run(style: Style, calls: usize, numbers: &mut Numbers) -> Counts {
+fn run(style: Style, calls: usize, numbers: &mut Numbers) -> (Counts, Met) {
     let (store, records) = (style.store, style.records());
     let mut pair = Pair::new(store, records, numbers);
     let started = pair.run(&style.start(), numbers);
@@ -17,17 +18,18 @@ fn run(style: Style, calls: usize, numbers: &mut Numbers) -> Counts {
         let outcome = pair.run(&call, numbers);
         claims.check(&call, &outcome);
     }
-    pair.told
+    (pair.told, claims.met)
 }
 
 #[test]
 fn random_lists() {
     let mut numbers = seed::numbers("random lists");
-    let mut told = [0; 14];
-    let mut add = |counts: Counts| {
+    let (mut told, mut met) = ([0; 14], Met::default());
+    let mut add = |(counts, inner): (Counts, Met)| {
         for (sum, count) in told.iter_mut().zip(counts) {
             *sum += count;
         }
+        met += inner;
     };
     for _ in 0..1_500 {
         add(run(Style::small(&mut numbers), 190, &mut numbers));
@@ -51,4 +53,5 @@ fn random_lists() {
     for number in (0..14).filter(|&number| number != 12) {
         assert!(told[number] >= 20, "number {number} is hardly told");
     }
+    assert!(met.least() >= 300);
 }

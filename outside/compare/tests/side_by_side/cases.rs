@@ -1,6 +1,7 @@
-//! The seventeen hand-counted cases and the traps on both packers.
+//! The twenty-one hand-counted cases and the traps on both packers.
 
 use compare::claims::Claims;
+use compare::met::Met;
 use compare::{Numbers, Pair};
 use reference::call::Call;
 use reference::cases::{hand_counted_cases, Case};
@@ -9,6 +10,12 @@ use reference::Answer;
 
 /// Runs a case, and gives what its last call told and left in the output.
 fn run(case: &Case) -> (Answer, Vec<u8>) {
+    let (last, _) = run_whole(case);
+    last
+}
+
+/// With the numbers and ids that all its calls told, and the inner starts met.
+fn run_whole(case: &Case) -> ((Answer, Vec<u8>), Whole) {
     let mut numbers = Numbers::new(1);
     let mut pair = Pair::new(case.store, case.records, &mut numbers);
     let Call::Start { pieces, links } = case.calls[0] else {
@@ -17,12 +24,25 @@ fn run(case: &Case) -> (Answer, Vec<u8>) {
     pair.run(&case.calls[0], &mut numbers);
     let mut claims = Claims::begin(pieces, links, case.store, case.records);
     let mut last = (Answer::default(), Vec::new());
+    let mut whole = Whole::default();
     for call in &case.calls[1..] {
         let outcome = pair.run(call, &mut numbers);
         claims.check(call, &outcome);
+        whole.numbers.push(outcome.answer.number);
+        if let Call::Close = call {
+            whole.ids.push(outcome.answer.id);
+        }
         last = (outcome.answer, outcome.output.1);
     }
-    last
+    whole.met = claims.met;
+    (last, whole)
+}
+
+#[derive(Default)]
+struct Whole {
+    numbers: Vec<u64>,
+    ids: Vec<u64>,
+    met: Met,
 }
 
 fn named(name: &str) -> Case {
@@ -35,19 +55,35 @@ fn named(name: &str) -> Case {
 
 #[test]
 fn every_case_is_the_same_on_both() {
+    let mut met = Met::default();
     for case in hand_counted_cases().iter().chain(&trap_cases()) {
-        run(case);
+        met += run_whole(case).1.met;
     }
+    assert!(met.least() >= 5);
+}
+
+#[test]
+fn inner_starts_counted_by_hand() {
+    let (_, whole) = run_whole(&named("20"));
+    assert_eq!(
+        whole.numbers,
+        [0, 0, 0, 0, 0, 3, 0, 0, 0, 0, 0, 0, 0, 0, 0, 0, 0, 0]
+    );
+    assert_eq!(whole.ids, [0, 1, 2, 1]);
 }
 
 #[test]
 fn tables_counted_by_hand() {
-    let tables: [(&str, &[u8]); 5] = [
+    let tables: [(&str, &[u8]); 9] = [
         ("1", &[0x61, 0, 5, 0, 8, 0x62, 0, 6, 0x63, 0, 3, 0x64]),
         ("3", &[0, 4, 0, 4, 0x78]),
         ("4", &[0, 0, 0, 4, 0x78]),
         ("5", &[0, 6, 0, 4, 0, 2, 0x78]),
         ("6", &[0x65]),
+        ("16", &[0, 0, 3, 0x78]),
+        ("17", &[0, 0, 5, 0, 5, 0x78]),
+        ("18", &[0, 1, 0, 2, 0, 2, 0x78]),
+        ("19", &[0, 1, 0, 2, 0, 4, 0, 8, 0x78]),
     ];
     for (name, table) in tables {
         let (answer, output) = run(&named(name));
@@ -71,6 +107,7 @@ fn numbers_counted_by_hand() {
         ("9", 0, 0),
         ("10", 4, 0),
         ("15", 2, 0),
+        ("20", 0, 13),
     ];
     for (name, number, bytes) in last {
         let answer = told(name);
@@ -80,14 +117,22 @@ fn numbers_counted_by_hand() {
             "case {name}"
         );
     }
-    for (name, length) in [("11", 65_545), ("12", 65_546)] {
+    for (name, length) in [
+        ("11", 65_545),
+        ("12", 65_546),
+        ("21 inner start 4469", 70_005),
+    ] {
         assert_eq!(
             (told(name).number, told(name).length),
             (0, length),
             "case {name}"
         );
     }
-    for (name, parent, field, needed) in [("13", 2, 2, 65_536), ("14", 2, 0, 80_000)] {
+    for (name, parent, field, needed) in [
+        ("13", 2, 2, 65_536),
+        ("14", 2, 0, 80_000),
+        ("21 inner start 4468", 1, 70_002, 65_536),
+    ] {
         let answer = told(name);
         let link = (answer.parent, answer.field, answer.needed);
         assert_eq!(

@@ -20,6 +20,12 @@ fn bytes(length: usize) -> Vec<u8> {
     (0..length).map(byte).collect()
 }
 
+/// To id 0.
+fn link(width: u32, inner: u32) -> Call {
+    let id = 0;
+    Call::Link { width, id, inner }
+}
+
 fn numbers_told(session: &mut Checked, numbers: &mut Numbers, calls: &[(Call, u64)]) {
     for (call, number) in calls {
         let told = session.run(call, numbers).answer.number;
@@ -137,7 +143,7 @@ fn a_put_fills_the_longest_store() {
             (Call::Tally, 0),
             (Call::Open, 0),
             (one, 6),
-            (Call::Link { width: 2, id: 0 }, 6),
+            (link(2, 0), 6),
             (Call::Close, 5),
             (Call::Drop, 0),
         ],
@@ -170,7 +176,8 @@ fn a_close_moves_nearly_the_whole_store() {
             (Call::Open, 0),
             (Call::Put(bytes(outer)), 0),
             (Call::Open, 0),
-            (Call::Link { width: 3, id: 0 }, 0),
+            (link(3, 1), 3),
+            (link(3, 0), 0),
             (Call::Put(bytes(LONGEST - 4 - outer - gap)), 0),
             (Call::Put(vec![7; gap + 1]), 6),
             (Call::Close, 0),
@@ -221,13 +228,7 @@ fn the_greatest_offset() {
             (Call::Close, 0),
             (Call::Open, 0),
             (Call::Put(bytes(LONGEST - 1 - width)), 0),
-            (
-                Call::Link {
-                    width: width as u32,
-                    id: 0,
-                },
-                0,
-            ),
+            (link(width as u32, 0), 0),
             (Call::Close, 0),
         ];
         numbers_told(&mut session, &mut numbers, &calls);
@@ -237,6 +238,42 @@ fn the_greatest_offset() {
             assert_eq!(packed.output.1[LONGEST - 1 - width..], *field[width - 3]);
         } else {
             assert_eq!(packed.answer.needed, LONGEST as u64 - 1);
+        }
+    }
+}
+
+/// The same root, with inner starts up to its field.
+#[test]
+fn the_greatest_inner_start() {
+    let mut numbers = seed::numbers("greatest inner start");
+    for width in [2, 3, 4] {
+        let place = LONGEST as u32 - 1 - width;
+        // Offsets of the width, and of the most that width 2 holds, and one more.
+        let just = LONGEST as u32 - 1 - 65_535;
+        for (inner, unfit) in [(place, false), (just, false), (just - 1, width == 2)] {
+            let mut session = Checked::started(ROOM, &mut numbers);
+            let calls = [
+                (Call::Open, 0),
+                (Call::Put(b"x".to_vec()), 0),
+                (Call::Close, 0),
+                (Call::Open, 0),
+                (Call::Put(bytes(place as usize)), 0),
+                (link(width, place + 1), 3),
+                (link(width, u32::MAX), 3),
+                (link(width, inner), 0),
+                (Call::Close, 0),
+            ];
+            numbers_told(&mut session, &mut numbers, &calls);
+            let packed = session.pack(1, 0, &mut numbers);
+            let offset = LONGEST as u32 - 1 - inner;
+            if unfit {
+                let told = packed.answer;
+                let link = (told.number, told.field, told.needed);
+                assert_eq!(link, (11, place.into(), offset.into()));
+            } else {
+                let field = &packed.output.1[place as usize..LONGEST - 1];
+                assert_eq!(field, &offset.to_be_bytes()[4 - width as usize..]);
+            }
         }
     }
 }

@@ -3,7 +3,7 @@
 
 use compare::largest::{Kind, LINKS, MIXED, PIECES, WIDE};
 use compare::made::Room;
-use compare::shapes::{self, Family, Graph, Piece};
+use compare::shapes::{self, Family, Graph, Piece, PARTS};
 use compare::{seed, Checked, Numbers};
 use reference::call::Call;
 use reference::lines::script;
@@ -32,8 +32,12 @@ impl Session<'_> {
     }
 
     fn link(&mut self, number: u64, width: u32, id: usize) {
+        self.link_from(number, width, id, 0);
+    }
+
+    fn link_from(&mut self, number: u64, width: u32, id: usize, inner: u32) {
         let id = id as u32;
-        self.tells(number, Call::Link { width, id });
+        self.tells(number, Call::Link { width, id, inner });
     }
 
     /// Opens and fills a piece.
@@ -97,13 +101,18 @@ fn the_last_piece_and_the_last_links() {
         let held = shapes::bytes(&graph);
         session.holds(held, LINKS - 2, PIECES - 1, 0);
         session.tells(0, Call::Open);
+        session.link_from(3, 4, PIECES - 2, 1);
         session.link(0, 4, PIECES - 2);
         session.put(0, b"last");
         session.link(4, 3, PIECES - 1);
-        session.link(0, 3, 0);
+        session.link_from(3, 3, 0, 9);
+        session.link_from(3, 3, 0, u32::MAX);
+        session.link_from(0, 3, 0, 8);
         session.holds(held + 11, LINKS, PIECES - 1, 1);
-        session.link(7, 2, 0);
-        session.link(4, 2, PIECES - 1);
+        session.link_from(7, 2, 0, 11);
+        session.link_from(3, 2, 0, 12);
+        session.link_from(4, 2, PIECES - 1, 11);
+        session.link_from(3, 2, PIECES - 1, 12);
         session.link(3, 5, PIECES);
         session.closes(PIECES - 1);
         session.holds(held + 11, LINKS, PIECES, 0);
@@ -111,6 +120,8 @@ fn the_last_piece_and_the_last_links() {
         session.holds(held + 11, LINKS, PIECES, 0);
         session.pack(10, PIECES - 1, 1);
         session.pack(0, PIECES - 1, 0);
+        let met = session.checked.claims.met;
+        assert_eq!((met.at_field, met.refused, met.packed), (1, 3, 1));
     }
 }
 
@@ -142,6 +153,7 @@ fn nothing_more(session: &mut Session) {
 #[test]
 fn duplicates_when_all_pieces_are_closed() {
     let mut numbers = seed::numbers("duplicates");
+    let mut by_inner = 0;
     for kind in KINDS {
         let (graph, mut session) = session(kind, PIECES, LINKS - 9, 3_000, &mut numbers);
         let has_room = |id: &usize| graph[*id].links.len() < 9 && graph[*id].size() < 3_000;
@@ -150,7 +162,9 @@ fn duplicates_when_all_pieces_are_closed() {
         for id in [ids[0], ids[1], any, ids[ids.len() - 1]] {
             session.fill(&graph[id]);
             session.closes(id);
-            for other in unlike(&graph[id]) {
+            let others = unlike(&graph[id]);
+            by_inner += usize::from(others.len() == 3);
+            for other in others {
                 session.fill(&other);
                 session.tells(8, Call::Close);
                 session.tells(0, Call::Drop);
@@ -158,18 +172,30 @@ fn duplicates_when_all_pieces_are_closed() {
         }
         last_bytes(&mut session);
     }
+    assert!(
+        by_inner >= 6,
+        "{by_inner} pieces that differ in an inner start"
+    );
 }
 
-/// Pieces that differ from this one in a byte or in a link's child, and from
-/// all others too.
+/// Pieces that differ from this one in a byte, in a link's child or in an inner
+/// start, and from all others too.
 fn unlike(piece: &Piece) -> Vec<Piece> {
-    let (mut byte, mut link) = (piece.clone(), piece.clone());
+    let mut byte = piece.clone();
     byte.bytes[0] ^= 0x80;
-    match link.links.last_mut() {
-        Some(last) => last.1 ^= 1,
-        None => return vec![byte],
+    let mut all = vec![byte];
+    if let Some(field) = piece.fields().last() {
+        let last = piece.links.len() - 1;
+        let mut child = piece.clone();
+        child.links[last].child ^= 1;
+        all.push(child);
+        if field.place > 0 {
+            let mut inner = piece.clone();
+            inner.links[last].part = if field.inner == 0 { PARTS } else { 0 };
+            all.push(inner);
+        }
     }
-    vec![byte, link]
+    all
 }
 
 /// 3,000 bytes are free, and 9 links.
@@ -177,9 +203,10 @@ fn last_bytes(session: &mut Session) {
     session.tells(0, Call::Open);
     session.put(6, &[1; 3_001]);
     session.put(0, &[1; 2_990]);
-    session.link(0, 4, PIECES - 1);
-    session.link(0, 3, PIECES - 2);
-    session.link(6, 4, 0);
+    session.link_from(0, 4, PIECES - 1, 2_990);
+    session.link_from(0, 3, PIECES - 2, 2_000);
+    session.link_from(6, 4, 0, 2_997);
+    session.link_from(3, 4, 0, 2_998);
     session.put(0, &[2]);
     session.link(6, 3, 0);
     session.link(0, 2, 0);

@@ -2,9 +2,11 @@
 //! back by the reader.
 
 use compare::made::Room;
+use compare::met::Met;
 use compare::pair::Counts;
-use compare::shapes::{self, Family, Graph, Make, FAMILIES};
+use compare::shapes::{self, Family, Graph, Link, Make, FAMILIES, PARTS};
 use compare::{seed, Checked, Numbers, Pair};
+use reference::call::Call;
 use reference::graph::Graph as Drawn;
 use reference::orders;
 use reference::sound::sound;
@@ -21,6 +23,9 @@ pub struct Seen {
     pub one_too_many: usize,
     /// Bytes of the longest table.
     pub longest: u64,
+    /// Tables that the plain order fits by their inner starts alone.
+    pub by_inner: usize,
+    pub met: Met,
 }
 
 /// A session that has room for the graph and little more.
@@ -39,6 +44,9 @@ pub fn build(graph: &Graph, session: &mut Checked, numbers: &mut Numbers) -> Vec
     for piece in graph {
         let mut closed = 0;
         for call in shapes::calls(piece, &ids) {
+            if numbers.below(32) == 0 {
+                too_great(&call, session, numbers);
+            }
             closed = session.run(&call, numbers).answer.id;
         }
         ids.push(closed as u32);
@@ -46,13 +54,29 @@ pub fn build(graph: &Graph, session: &mut Checked, numbers: &mut Numbers) -> Vec
     ids
 }
 
-/// Whether the plain order does not fit.
-fn needs_distance(pair: &Pair, root: u32) -> bool {
+/// The same link with an inner start just past its field is refused.
+fn too_great(call: &Call, session: &mut Checked, numbers: &mut Numbers) {
+    let (&Call::Link { width, id, .. }, Some(place)) =
+        (call, session.claims.history.innermost_size())
+    else {
+        return;
+    };
+    let inner = place as u32 + 1;
+    let told = session.run(&Call::Link { width, id, inner }, numbers);
+    assert_eq!(told.answer.number, 3);
+}
+
+/// Whether the plain order fits, and whether it would if all offsets counted
+/// from the first bytes of their pieces.
+fn plain_fits(pair: &Pair, root: u32) -> (bool, bool) {
     let view = sound(&pair.reference.bytes, &pair.reference.records).expect("sound");
-    let graph = Drawn::of(&view);
-    orders::plain(&graph, root as usize)
-        .overflow(&graph)
-        .is_some()
+    let mut graph = Drawn::of(&view);
+    let placing = orders::plain(&graph, root as usize);
+    let fits = placing.overflow(&graph).is_none();
+    for node in &mut graph.nodes {
+        node.links.iter_mut().for_each(|link| link.inner = 0);
+    }
+    (fits, placing.overflow(&graph).is_none())
 }
 
 fn compare(graph: &Graph, numbers: &mut Numbers, seen: &mut Seen) {
@@ -72,12 +96,16 @@ pub fn packs(
     let last = *ids.last().unwrap();
     for (id, less) in [(last, 0), (numbers.one_of(ids), 0), (last, 1)] {
         let answer = session.pack(id, less, numbers).answer;
-        let accepted = answer.number == 0;
-        seen.by_distance += usize::from(accepted && needs_distance(&session.pair, id));
+        if answer.number == 0 {
+            let (fits, without) = plain_fits(&session.pair, id);
+            seen.by_distance += usize::from(!fits);
+            seen.by_inner += usize::from(fits && !without);
+        }
         seen.one_too_many += usize::from(answer.needed == 65_536);
         seen.longest = seen.longest.max(answer.length);
     }
     seen.graphs += 1;
+    seen.met += session.claims.met;
     seen.calls += session.pair.told.iter().sum::<usize>();
     for (sum, count) in seen.told.iter_mut().zip(session.pair.told) {
         *sum += count;
@@ -164,6 +192,7 @@ fn many_graphs() {
     assert!(seen.graphs >= 2_000);
     assert!(seen.told[11] >= 100 && seen.told[10] >= 1_000);
     assert!(seen.by_distance >= 30 && seen.one_too_many >= 5);
+    assert!(seen.met.least() >= 500 && seen.by_inner >= 20);
 }
 
 const MIXED: &[u32] = &[2, 3, 3, 4, 4];
@@ -207,6 +236,7 @@ fn large(name: &str, kinds: &[Kind]) -> Seen {
     }
     report(&seen);
     assert_eq!(seen.most, (4_096, 16_384));
+    assert!(seen.met.least() >= 1);
     seen
 }
 
@@ -217,9 +247,10 @@ fn full(mut graph: Graph) -> Graph {
         16_384_usize.checked_sub(shapes::links(&graph)),
     );
     match more {
-        Some(more) => graph[root]
-            .links
-            .extend((0..more).map(|k| (3 + k as u32 % 2, k % root))),
+        Some(more) => graph[root].links.extend((0..more).map(|k| {
+            let link = Link::new(3 + k as u32 % 2, k % root);
+            link.with_part(k % (PARTS + 1))
+        })),
         None => {
             let less = shapes::links(&graph) - 16_384;
             let kept = graph[root].links.len() - less;
@@ -240,7 +271,7 @@ pub fn report(seen: &Seen) {
         seen.told[0], seen.told[10], seen.told[11]
     );
     println!(
-        "  tables by the distance order alone: {}, offsets of 65,536 refused: {}",
-        seen.by_distance, seen.one_too_many
+        "  tables by the distance order alone: {}, by inner starts alone: {}, offsets of 65,536 refused: {}",
+        seen.by_distance, seen.by_inner, seen.one_too_many
     );
 }

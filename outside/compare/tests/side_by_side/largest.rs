@@ -10,7 +10,7 @@ use reference::call::Call;
 /// Packs a graph of each kind, with so many links.
 fn compare(name: &str, kinds: &[(Kind, usize)]) -> Seen {
     let mut numbers = seed::numbers(name);
-    let mut seen = Seen::default();
+    let (mut seen, mut inner_starts) = (Seen::default(), 0);
     let ids: Vec<u32> = (0..PIECES as u32).collect();
     for (kind, links) in kinds {
         let graph = kind.graph(PIECES, *links, &mut numbers);
@@ -22,9 +22,13 @@ fn compare(name: &str, kinds: &[(Kind, usize)]) -> Seen {
         let mut session = Checked::made(&graph, room, &mut numbers);
         let tally = session.run(&Call::Tally, &mut numbers).answer;
         assert_eq!((tally.objects, tally.links), (PIECES as u64, *links as u64));
+        inner_starts += shapes::inner_starts(&graph);
         packs(&graph, &ids, &mut session, &mut numbers, &mut seen);
     }
     report(&seen);
+    let tables = seen.met.packed;
+    println!("  {inner_starts} inner starts above 0, {tables} tables with some");
+    assert!(inner_starts >= kinds.len() * PIECES / 2 && tables >= kinds.len() / 2);
     assert_eq!(seen.most, (PIECES, LINKS));
     assert_eq!(seen.told[10], kinds.len());
     seen
@@ -55,9 +59,16 @@ fn fans_and_shared_leaves_of_all_pieces_and_links() {
         bytes: LONGEST,
         ..Kind::small(Family::Fan, WIDE)
     };
+    // The last leaf lies 98,296 bytes behind the root's first one.
+    let from_fields = Kind {
+        sizes: &[4],
+        at_field: true,
+        ..Kind::small(Family::Fan, &[2])
+    };
     let seen = compare(
         "largest fans and shared leaves",
         &[
+            (from_fields, PIECES - 1),
             (Kind::long(Family::Fan, WIDE), LINKS),
             (short, PIECES - 1),
             (Kind::long(Family::Shared, WIDE).outlying(), LINKS),
@@ -71,7 +82,7 @@ fn fans_and_shared_leaves_of_all_pieces_and_links() {
             (Kind::small(Family::Shared, MIXED), LINKS),
         ],
     );
-    assert!(seen.told[11] >= 1 && seen.by_distance >= 3);
+    assert!(seen.told[11] >= 1 && seen.by_distance >= 3 && seen.by_inner >= 1);
     assert_eq!(seen.longest, LONGEST as u64);
 }
 

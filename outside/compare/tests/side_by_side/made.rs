@@ -2,6 +2,7 @@
 
 use crate::graphs::{build, make};
 use compare::made::{self, Room};
+use compare::met::Met;
 use compare::shapes::{self, Make, FAMILIES};
 use compare::{seed, Checked};
 use reference::call::{Call, Stores};
@@ -12,7 +13,7 @@ fn said(stores: &Stores) -> Vec<u32> {
     let words = &stores.records;
     let (p, closed) = (words[0] as usize, words[1] as usize);
     let (l, lowest) = (words[134 + p] as usize, words[134 + p + closed] as usize);
-    let record = |number: usize| 135 + 2 * p + 3 * number;
+    let record = |number: usize| 135 + 2 * p + 4 * number;
     [
         &words[0..=3],
         &words[68..=68],
@@ -26,6 +27,7 @@ fn said(stores: &Stores) -> Vec<u32> {
 #[test]
 fn made_sessions_are_as_the_calls_make_them() {
     let mut numbers = seed::numbers("made sessions");
+    let (mut calls, mut without) = (Met::default(), Met::default());
     for turn in 0..400 {
         let make = Make {
             pieces: 2 + numbers.below(40),
@@ -60,5 +62,9 @@ fn made_sessions_are_as_the_calls_make_them() {
             let written = one.answer.length as usize;
             assert_eq!(one.output.1[..written], other.output.1[..written]);
         }
+        calls += built.claims.met;
+        without += made.claims.met;
     }
+    assert!(calls.least() >= 100);
+    assert_eq!(without.packed, calls.packed);
 }

@@ -1,6 +1,7 @@
 //! Both packers side by side: one program, so that its tests share the
 //! processors.
 
+mod apart;
 mod calls;
 mod cases;
 mod ends;

@@ -10,6 +10,7 @@ use compare::{seed, tamper, Checked, Numbers, Pair};
 use reference::call::{Call, Stores};
 use reference::limits;
 use reference::lines::script;
+use reference::random::any_inner;
 use reference::sound::sound;
 use std::ops::Range;
 
@@ -38,6 +39,9 @@ struct Seen {
     unsound: [usize; 8],
     /// On stores still sound, though damaged.
     sound: [usize; 8],
+    /// Stores in which one inner start was changed and nothing else: past its
+    /// field, and not.
+    inner: [usize; 2],
 }
 
 const NAMES: [&str; 8] = [
@@ -74,14 +78,25 @@ impl Seen {
         count[kind(call)] += 1;
     }
 
+    /// Damage of one inner start alone, if there is one.
+    fn damage_inner(&mut self, stores: &mut Stores, numbers: &mut Numbers) {
+        if let Some(allowed) = tamper::an_inner_start(stores, numbers) {
+            let is_sound = sound(&stores.bytes, &stores.records).is_some();
+            assert_eq!(is_sound, allowed);
+            self.inner[usize::from(allowed)] += 1;
+        }
+    }
+
     /// Prints the counts, and gives the least of the calls from `first` on.
     fn least(&self, first: usize) -> usize {
         let counts = NAMES.iter().zip(self.unsound.iter().zip(self.sound));
         for (name, (unsound, sound)) in counts.skip(first) {
             println!("  {name}: {unsound} on unsound stores, {sound} on stores still sound");
         }
-        let both = [&self.unsound[first..], &self.sound[first..]].concat();
-        both.into_iter().min().unwrap()
+        let [past, allowed] = self.inner;
+        println!("  inner starts past their field: {past}, changed and not past it: {allowed}");
+        let all = [&self.unsound[first..], &self.sound[first..], &self.inner].concat();
+        all.into_iter().min().unwrap()
     }
 }
 
@@ -93,8 +108,12 @@ fn damaged_stores() {
         let (style, claims, stores) = session(&mut numbers);
         for _ in 0..25 {
             let mut damaged = stores.clone();
-            for _ in 0..=numbers.below(2) {
-                tamper::damage(&mut damaged, &mut numbers);
+            if numbers.below(8) == 0 {
+                seen.damage_inner(&mut damaged, &mut numbers);
+            } else {
+                for _ in 0..=numbers.below(2) {
+                    tamper::damage(&mut damaged, &mut numbers);
+                }
             }
             let mut pair = Pair::of(damaged);
             for _ in 0..=numbers.below(4) {
@@ -116,18 +135,19 @@ fn large_stores(kind: Kind, free: usize, opened: bool, numbers: &mut Numbers) ->
         store: shapes::bytes(&graph) + free,
     };
     let mut session = Checked::made(&graph, room, numbers);
-    let link = |width, id: usize| Call::Link {
+    let link = |width, id: usize, inner| Call::Link {
         width,
         id: id as u32,
+        inner,
     };
     let calls = [
         Call::Open,
-        link(2, PIECES - 3),
+        link(2, PIECES - 3, 0),
         Call::Put(vec![1; 5]),
-        link(4, 0),
+        link(4, 0, 7),
         Call::Open,
         Call::Put(vec![2; 3]),
-        link(3, PIECES / 2),
+        link(3, PIECES / 2, 2),
     ];
     for call in calls.iter().filter(|_| opened) {
         assert_eq!(session.run(call, numbers).answer.number, 0);
@@ -143,6 +163,8 @@ fn large_call(output: usize, numbers: &mut Numbers) -> Call {
         2 => Call::Link {
             width: numbers.one_of(&[2, 3, 4]),
             id: numbers.below(PIECES) as u32,
+            // By the size of the innermost piece.
+            inner: any_inner(6, numbers),
         },
         3..=4 => Call::Close,
         5 => Call::Drop,
@@ -166,7 +188,11 @@ fn damage_large(turns: usize, kinds: &[Kind], numbers: &mut Numbers, seen: &mut 
             let stores = large_stores(kind, free, opened, numbers);
             for _ in 0..turns {
                 let mut damaged = stores.clone();
-                tamper::damage(&mut damaged, numbers);
+                if numbers.below(8) == 0 {
+                    seen.damage_inner(&mut damaged, numbers);
+                } else {
+                    tamper::damage(&mut damaged, numbers);
+                }
                 let mut pair = Pair::of(damaged);
                 for _ in 0..=numbers.below(2) {
                     let call = large_call(stores.bytes.len(), numbers);
@@ -194,6 +220,36 @@ fn damaged_stores_of_all_pieces_and_links() {
     ];
     damage_large(40, &long, &mut numbers, &mut seen);
     assert!(seen.least(1) >= 20);
+}
+
+/// Every held link of small sessions, with each inner start up to one past its
+/// field, and far ones.
+#[test]
+fn every_inner_start_is_looked_at() {
+    let mut numbers = seed::numbers("inner starts");
+    let mut looked_at = [0; 2];
+    for _ in 0..200 {
+        let (_, _, stores) = session(&mut numbers);
+        let view = sound(&stores.bytes, &stores.records).expect("sound");
+        let open = 0..view.open_link_end(view.depth());
+        let closed = view.closed_link_begin(view.closed())..view.layout.links;
+        for record in open.chain(closed) {
+            let (place, word) = (view.field(record).place, view.layout.link(record) + 2);
+            let far = [place + 256, place + 65_536, 1 << 31, u32::MAX];
+            for inner in (0..=place.min(40)).chain([place, place + 1]).chain(far) {
+                let mut tried = stores.clone();
+                tried.records[word] = inner;
+                let number = Pair::of(tried)
+                    .run(&Call::Tally, &mut numbers)
+                    .answer
+                    .number;
+                assert_eq!(number, if inner > place { 12 } else { 0 });
+                looked_at[usize::from(inner > place)] += 1;
+            }
+        }
+    }
+    println!("  {looked_at:?} inner starts not past their field, and past it");
+    assert!(looked_at.iter().all(|&count| count >= 500));
 }
 
 /// Sets a byte in both packers' stores, and gives what it was.
