@@ -19,6 +19,7 @@ number Refusal.OutputShort = 10
 number (Refusal.Overflow o) = 11
 number Refusal.Unsound = 12
 number Refusal.OutOfRange = 13
+number Refusal.Hopeless = 16
 
 abbrev pub noOverflow : Overflow
 noOverflow = record { parent = record { 0 = 0 }; field = 0; needed = 0 }
@@ -38,11 +39,12 @@ named Refusal.OutputShort = noOverflow
 named (Refusal.Overflow o) = o
 named Refusal.Unsound = noOverflow
 named Refusal.OutOfRange = noOverflow
+named Refusal.Hopeless = noOverflow
 
 abbrev pub noTally : Tally
 noTally = record { bytes = 0; links = 0; objects = 0; depth = 0 }
 
--- 1 to 11 come with the true tally, 12 and 13 with zeros
+-- 12 and 13 come with zeros, the others with the true tally
 abbrev pub beside : Refusal → Tally → Tally
 beside Refusal.NothingOpen t = t
 beside Refusal.DepthFull t = t
@@ -57,3 +59,4 @@ beside Refusal.OutputShort t = t
 beside (Refusal.Overflow o) t = t
 beside Refusal.Unsound t = noTally
 beside Refusal.OutOfRange t = noTally
+beside Refusal.Hopeless t = t

@@ -31,6 +31,7 @@ pub enum Refusal {
     Overflow(Overflow),
     Unsound,
     OutOfRange,
+    Hopeless,
 }
 
 // Of every call but close and pack.

@@ -1,5 +1,5 @@
 -- docs/RULES.md, section 6: what holds of each of the eight calls on any lent memory, sound or not.
-use Prim.Native.Nat.{ℕ, _-_, _≤_}
+use Prim.Native.Nat.{ℕ, _-_}
 use mathlib.Core.Path.{_≡_}
 use mathlib.Core.List.{List, []}
 use mathlib.Core.Bool.{Bool, true, false, _||_}
@@ -7,15 +7,16 @@ use lib.ListN.{length, take, drop, replicate}
 use lib.Dec.{eqb}
 use Rattle.lists.specs.Lists.{Exactly}
 use Rattle.answer.specs.declared.Refusal.{Refusal}
+use Rattle.model.specs.Object.{hopelessObject}
 use Rattle.model.specs.Graph.{graphOf}
 use Rattle.model.specs.Table.{arranged, tableLength}
-use Rattle.model.specs.Judge.{Test, Tells, lastNumber, startTests, openTests, putTests, linkTests, closeTests, dropTests, tallyTests, packTests}
+use Rattle.model.specs.Judge.{Test, Tells, inTable, startTests, openTests, putTests, linkTests, closeTests, dropTests, tallyTests, packTests}
 use Rattle.model.specs.Told.{refusal}
 use Rattle.layout.specs.Words.{objectLimit, linkLimit, need, limitsIn, top}
 use Rattle.work.specs.Areas.{workNeed}
 use Rattle.layout.specs.Decode.{decode}
 use Rattle.layout.specs.Sound.{sound}
-use Rattle.steps.specs.Steps.{tallyIn, limitsOf, under, madeLink, twinIn}
+use Rattle.steps.specs.Steps.{tallyIn, limitsOf, under, innermostIn, madeLink, twinIn}
 use Rattle.steps.specs.Runs.{StoreCall, start, open', put, link, close, drop as dropCall, tally, Stores, LentCall, onStores, pack, LentLeft}
 
 -- a call's tests, in their order
@@ -31,7 +32,7 @@ module _ (s : Stores) where
   testsOf (onStores open') = openTests (sound b w) (tallyIn b w)
   testsOf (onStores (put vs)) = putTests (sound b w) (limitsIn w) (tallyIn b w) (length vs)
   testsOf (onStores (link width id inner)) = linkTests (sound b w) (limitsIn w) (tallyIn b w) (madeLink width id inner w .slot) id
-  testsOf (onStores close) = closeTests (sound b w) (limitsIn w) (tallyIn b w) (top w - under w) (twinIn b w)
+  testsOf (onStores close) = closeTests (sound b w) (limitsIn w) (tallyIn b w) (top w - under w) (hopelessObject (innermostIn b w)) (twinIn b w)
   testsOf (onStores dropCall) = dropTests (sound b w) (tallyIn b w)
   testsOf (onStores tally) = tallyTests (sound b w)
   testsOf (pack id out work) =
@@ -61,7 +62,7 @@ clearing k = eqb k 0 || (eqb k 10 || eqb k 11)
 pub record Answers (s : Stores) (c : LentCall) (l : LentLeft) : Type 0 where
   -- each number exactly where its test is the first that applies
   pub exactly : (k : ℕ) → Exactly (l .told .number ≡ k) (Tells (testsOf s c) k)
-  pub inTable : l .told .number ≤ lastNumber
+  pub inTable : inTable (l .told .number) ≡ true
   -- a refusal tells no more than its number, the tally beside it, and the link that 11 names
   pub refused : (l .told .number ≡ 0 → ⊥) → (why : Refusal) × (l .told ≡ refusal why (tallyIn (s .bytes) (s .words)))
   -- a refused call leaves both stores and the output as they were

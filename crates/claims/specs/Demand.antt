@@ -4,9 +4,9 @@ use mathlib.Core.Path.{_≡_}
 use mathlib.Core.List.{List, [], _∷_}
 use mathlib.Core.Bool.{true}
 use lib.ListN.{length, take, drop}
-use lib.Dec.{leb}
 use Rattle.lists.specs.Lists.{pick, total}
 use Rattle.answer.specs.Number.{noTally}
+use Rattle.model.specs.Judge.{noTallyBeside}
 use Rattle.model.specs.Told.{done}
 use Rattle.model.specs.Reading.{Reading, readingAt, readingSize, Shows, below, different}
 use Rattle.model.specs.Session.{Needs, Call, sessionCall, packCall}
@@ -42,7 +42,7 @@ pub record Table (h : History) (root : ℕ) (out : List ℕ) (l : LentLeft) : Ty
   pub sum : l .told .length ≡ total readingSize (different (readingAt (h .closed) root ∷ below (readingAt (h .closed) root)))
 
 pub record PackClaim (h : History) (root : ℕ) (out : List ℕ) (l : LentLeft) : Type 0 where
-  pub counted : l .told .tally ≡ pick (leb 12 (l .told .number)) noTally (counts h)
+  pub counted : l .told .tally ≡ pick (noTallyBeside (l .told .number)) noTally (counts h)
   pub table : l .told .number ≡ 0 → Table h root out l
   pub untouched : (l .told .number ≡ 0 → ⊥) → l .out ≡ out
 

@@ -1,11 +1,11 @@
--- docs/RULES.md, 4.7 and 4.8: when an object's fields are right.
+-- docs/RULES.md, 4.7, 4.8 and 4.10: when an object's fields are right, and when they can be filled.
 use Prim.Native.Nat.{ℕ, _+_}
 use mathlib.Core.List.{List, [], _∷_}
-use mathlib.Core.Bool.{Bool, true, _&&_}
+use mathlib.Core.Bool.{Bool, true, not, _&&_}
 use lib.ListN.{length}
 use lib.Dec.{leb, ltb}
 use Rattle.lists.specs.Lists.{part, holds, zeros}
-use Rattle.model.specs.Object.{Link, Object, slotOk}
+use Rattle.model.specs.Object.{Slot, Link, Object, slotOk, hopelessObject}
 
 -- a field at or past `from`, of a width and an inner start that it may have, inside the bytes, to a child below `kids`, its bytes zero
 unfoldable pub fieldTests : ℕ → ℕ → List ℕ → Link → List Bool
@@ -24,3 +24,12 @@ fieldsOk kids from bs (l ∷ ls) = holds (fieldTests kids from bs l) && fieldsOk
 
 abbrev pub objectOk : ℕ → Object → Bool
 objectOk kids o = fieldsOk kids 0 (o .bytes) (o .links)
+
+-- closed, it has no field that no order can fill
+abbrev pub closedOk : ℕ → Object → Bool
+closedOk kids o = objectOk kids o && not (hopelessObject o)
+
+-- every width and every inner start is one that a field may have
+unfoldable pub slotsOk : List Slot → Bool
+slotsOk [] = true
+slotsOk (s ∷ ss) = slotOk s && slotsOk ss

@@ -8,7 +8,7 @@ use Rattle.lists.specs.Lists.{part, zeros, holds}
 use Rattle.model.specs.Judge.{mostObjects, mostLinks, mostBytes, mostOpen}
 use Rattle.layout.specs.Tables.{rises, falls, forAll}
 use Rattle.layout.specs.Words.{objectLimit, closedCount, openDepth, endsAt, linkEndsAt, need, storeLength, linkLimit, ends, linkEnds, begins, linkBegins, top, linkTop, low, linkLow}
-use Rattle.layout.specs.Fields.{objectOk}
+use Rattle.layout.specs.Fields.{objectOk, closedOk}
 use Rattle.layout.specs.Decode.{openAt, closedAt}
 use Rattle.layout.specs.Sound.{tableTests, sound}
 use Rattle.layout.specs.Spans.{innerSpan, Within}
@@ -40,7 +40,7 @@ pub record Sound (b w : List ℕ) : Type 0 where
   pub linkInside : linkLow w ≤ linkLimit w
   pub gap : zeros (part (top w) (low w) b) ≡ true
   pub opens : forAll (λ d. objectOk (closedCount w) (openAt b w d)) (openDepth w) ≡ true
-  pub closed : forAll (λ i. objectOk i (closedAt b w i)) (closedCount w) ≡ true
+  pub closed : forAll (λ i. closedOk i (closedAt b w i)) (closedCount w) ≡ true
 
 -- what is known of the counts and the edges of sound stores, for stores of n bytes and r words
 pub record Bounds (n r : ℕ) (s : State) : Type 0 where

@@ -8,7 +8,7 @@ use Rattle.lists.specs.Lists.{part, holds, zeros}
 use Rattle.model.specs.Judge.{inRange, mostOpen}
 use Rattle.layout.specs.Tables.{rises, falls, forAll}
 use Rattle.layout.specs.Words.{objectLimit, closedCount, openDepth, endsAt, linkEndsAt, need, storeLength, linkLimit, limitsIn, ends, linkEnds, begins, linkBegins, top, linkTop, low, linkLow}
-use Rattle.layout.specs.Fields.{objectOk}
+use Rattle.layout.specs.Fields.{objectOk, closedOk}
 use Rattle.layout.specs.Decode.{openAt, closedAt}
 
 -- limits in range; the record store no shorter than its need; the byte store, of n bytes, as long as at the start; counts within limits; the tables' first entries
@@ -31,14 +31,14 @@ unfoldable pub tableTests : List ℕ → List Bool
 tableTests w =
     rises (ends w) ∷ rises (linkEnds w) ∷ falls 1 (begins w) ∷ falls 0 (linkBegins w) ∷ leb (top w) (low w) ∷ leb (linkTop w) (linkLow w) ∷ []
 
--- the bytes between are zero; fields are right, every child closed, and below a closed parent
+-- the bytes between are zero; fields are right, every child closed, and below a closed parent; every closed object's fields can be filled
 unfoldable pub soundTests : List ℕ → List ℕ → List Bool
 soundTests b w =
     headOk (length b) w
     ∷ holds (tableTests w)
     ∷ zeros (part (top w) (low w) b)
     ∷ forAll (λ d. objectOk (closedCount w) (openAt b w d)) (openDepth w)
-    ∷ forAll (λ i. objectOk i (closedAt b w i)) (closedCount w)
+    ∷ forAll (λ i. closedOk i (closedAt b w i)) (closedCount w)
     ∷ []
 
 unfoldable pub sound : List ℕ → List ℕ → Bool

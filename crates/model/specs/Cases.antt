@@ -1,4 +1,4 @@
--- docs/RULES.md, section 9: the fifteen cases marked P and two more, on the abstract session, by one claim over a list of them; the ends of 3.1 and 3.2; and 6.1, for link and pack.
+-- docs/RULES.md, section 9: cases 1 to 10, 16 to 20 and two more, on the abstract session, by one claim over a list of them; the ends of 3.1 and 3.2; 22 to 24, closes at the edge of what can be filled; and 6.1, for link, close and pack.
 use Prim.Native.Nat.{ℕ}
 use mathlib.Core.List.{List, [], _∷_, _++_}
 use mathlib.Core.Bool.{Bool, true, false, _&&_}
@@ -6,9 +6,9 @@ use lib.Dec.{eqb}
 use Rattle.lists.specs.Lists.{sameList}
 use Rattle.answer.specs.Number.{noOverflow}
 use Rattle.answer.specs.declared.tally.Tally.{Tally}
-use Rattle.model.specs.Object.{newSlot}
+use Rattle.model.specs.Object.{Slot, newSlot, anyHopeless}
 use Rattle.model.specs.Table.{overflow}
-use Rattle.model.specs.Judge.{Limits, Verdict, judgeStart, judgeLink, judgePack}
+use Rattle.model.specs.Judge.{Limits, Verdict, judgeStart, judgeLink, judgeClose, judgePack}
 use Rattle.model.specs.Session.{Needs, Session, started, tallyOf, SessionCall, startCall, openCall, putCall, linkCall, closeCall, dropCall, tallyCall, step, pack, Call, sessionCall, packCall, afterCall}
 
 -- from a fresh session: the number that each call tells, the id of each close, the four counts at the end, and all tables
@@ -276,11 +276,30 @@ ends =
     ∷ judgeStart (limitsOf 16384 65536 16777217) 0 0
     ∷ []
 
--- ---- several refusals at once, of a link and of a pack: in each line those of all the lines below it apply too
+-- ---- the edge of what can be filled
 
 -- one closed object, and `depth` open ones
 abbrev holding : ℕ → Tally
 holding depth = record { bytes = 1; links = 0; objects = 1; depth = depth }
+
+-- the close of a new object of n bytes with these fields
+abbrev closing : ℕ → ℕ → List Slot → Verdict
+closing limit n ss = judgeClose true (limitsOf limit 1 n) (holding 1) n (anyHopeless n ss) 1
+
+-- the last two with the object limit reached
+abbrev pub edges : List Verdict
+edges =
+    closing 2 65535 (newSlot 0 2 0 ∷ [])
+    ∷ closing 2 65536 (newSlot 0 2 0 ∷ [])
+    ∷ closing 2 65537 (newSlot 0 2 0 ∷ [])
+    ∷ closing 2 65545 (newSlot 10 2 10 ∷ [])
+    ∷ closing 2 65546 (newSlot 10 2 10 ∷ [])
+    ∷ closing 2 16777215 (newSlot 0 3 0 ∷ [])
+    ∷ closing 1 0 []
+    ∷ closing 1 65536 (newSlot 0 2 0 ∷ [])
+    ∷ []
+
+-- ---- several refusals at once, of a link, of a close and of a pack: in each line those of all the lines below it apply too
 
 abbrev pub several : List (List Verdict)
 several =
@@ -290,6 +309,12 @@ several =
     ∷ judgeLink true (limitsOf 1 0 1) (holding 1) (newSlot 0 2 0) 1
     ∷ judgeLink true (limitsOf 1 0 1) (holding 1) (newSlot 0 2 0) 0
     ∷ judgeLink true (limitsOf 1 1 1) (holding 1) (newSlot 0 2 0) 0
+    ∷ [])
+    ∷ (judgeClose false (limitsOf 1 0 1) (holding 0) 0 true 1
+    ∷ judgeClose true (limitsOf 1 0 1) (holding 0) 0 true 1
+    ∷ judgeClose true (limitsOf 1 0 1) (holding 1) 0 true 1
+    ∷ judgeClose true (limitsOf 1 0 1) (holding 1) 1 true 1
+    ∷ judgeClose true (limitsOf 1 0 1) (holding 1) 1 false 1
     ∷ [])
     ∷ (judgePack false (holding 1) 1 0 1 0 1 (overflow noOverflow)
     ∷ judgePack true (holding 1) 1 0 1 0 1 (overflow noOverflow)

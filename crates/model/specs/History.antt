@@ -4,13 +4,13 @@ use mathlib.Core.Path.{_≡_}
 use mathlib.Core.List.{List, [], _∷_, _++_, map}
 use mathlib.Core.Bool.{true}
 use lib.ListN.{length, replicate}
-use lib.Dec.{leb, ltb}
+use lib.Dec.{ltb}
 use Rattle.lists.specs.Lists.{pick, total, firstThat}
 use Rattle.answer.specs.Number.{noTally}
 use Rattle.answer.specs.declared.tally.Tally.{Tally}
 use Rattle.model.specs.Object.{Slot, newSlot}
-use Rattle.model.specs.Reading.{Reading, bytes, field, readingSize, fieldCount, readingAt, readObject, readings, sameReading, Shows, below, different}
-use Rattle.model.specs.Judge.{Limits, Verdict, accepted, refused, judgeStart, judgeOpen, judgePut, judgeLink, judgeClose, judgeDrop, judgeTally}
+use Rattle.model.specs.Reading.{Reading, bytes, field, readingSize, fieldCount, hopelessReading, readingAt, readObject, readings, sameReading, Shows, below, different}
+use Rattle.model.specs.Judge.{Limits, Verdict, accepted, refused, noTallyBeside, judgeStart, judgeOpen, judgePut, judgeLink, judgeClose, judgeDrop, judgeTally}
 use Rattle.model.specs.Told.{Told, doneClose, refusal}
 use Rattle.model.specs.Session.{Needs, Session, SessionCall, startCall, openCall, putCall, linkCall, closeCall, dropCall, tallyCall, Call, sessionCall, packCall, step, PackLeft, pack, afterCall}
 
@@ -91,7 +91,8 @@ judged n (startCall m records) h = judgeStart m (n .records m) records
 judged n openCall h = judgeOpen true (counts h)
 judged n (putCall vs) h = judgePut true (h .limits) (counts h) (length vs)
 judged n (linkCall w id i) h = judgeLink true (h .limits) (counts h) (newSlot (readingSize (innermostReading (h .opens))) w i) id
-judged n closeCall h = judgeClose true (h .limits) (counts h) (readingSize (innermostReading (h .opens))) (idOf h)
+judged n closeCall h =
+    judgeClose true (h .limits) (counts h) (readingSize (innermostReading (h .opens))) (hopelessReading (innermostReading (h .opens))) (idOf h)
 judged n dropCall h = judgeDrop true (counts h)
 judged n tallyCall h = judgeTally true
 
@@ -162,7 +163,7 @@ pub record Packed (h : History) (root : ℕ) (p : PackLeft) : Type 0 where
 
 -- the tally beside a pack's number is the history's, but zero beside 12 and 13
 pub record PackAgrees (h : History) (root : ℕ) (p : PackLeft) : Type 0 where
-  pub counted : p .told .tally ≡ pick (leb 12 (p .told .number)) noTally (counts h)
+  pub counted : p .told .tally ≡ pick (noTallyBeside (p .told .number)) noTally (counts h)
   pub packed : p .told .number ≡ 0 → Packed h root p
 
 -- no two readings are the same

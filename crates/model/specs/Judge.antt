@@ -2,7 +2,7 @@
 use Prim.Native.Nat.{ℕ, _+_, _*_}
 use mathlib.Core.Path.{_≡_}
 use mathlib.Core.List.{List, [], _∷_}
-use mathlib.Core.Bool.{Bool, true, false, not, _&&_}
+use mathlib.Core.Bool.{Bool, true, false, not, _&&_, _||_}
 use lib.Dec.{eqb, leb, ltb}
 use Rattle.lists.specs.Lists.{pick, holds}
 use Rattle.answer.specs.Number.{number}
@@ -46,9 +46,13 @@ abbrev pub numberOf : Verdict → ℕ
 numberOf accepted = 0
 numberOf (refused why) = number why
 
--- no number is higher
-abbrev pub lastNumber : ℕ
-lastNumber = 13
+-- 0 to 13, and 16: no other number is told
+abbrev pub inTable : ℕ → Bool
+inTable k = leb k 13 || eqb k 16
+
+-- 12 and 13 come with zeros for the tally
+abbrev pub noTallyBeside : ℕ → Bool
+noTallyBeside k = eqb k 12 || eqb k 13
 
 pub record Test : Type 0 where
   pub applies : Bool
@@ -124,12 +128,13 @@ abbrev pub linkTests : Bool → Limits → Tally → Slot → ℕ → List Test
 linkTests sound m t s id =
     unsound sound ∷ nothingOpen t ∷ badField s ∷ notClosed t id ∷ linksFull m t ∷ storeFull m t (s .width) ∷ []
 
--- `size` is the innermost open object's; `twin` the lowest id of an equal closed one, or the count of closed ones
-abbrev pub closeTests : Bool → Limits → Tally → ℕ → ℕ → List Test
-closeTests sound m t size twin =
+-- `size` is the innermost open object's, and `hopeless` whether it has a field that no order can fill; `twin` the lowest id of an equal closed one, or the count of closed ones
+abbrev pub closeTests : Bool → Limits → Tally → ℕ → Bool → ℕ → List Test
+closeTests sound m t size hopeless twin =
     unsound sound
     ∷ nothingOpen t
     ∷ when (eqb size 0) Refusal.EmptyObject
+    ∷ when hopeless Refusal.Hopeless
     ∷ when (leb (t .objects) twin && leb (m .objects) (t .objects)) Refusal.ObjectsFull
     ∷ []
 
@@ -157,8 +162,8 @@ judgePut sound m t n = verdict (putTests sound m t n)
 abbrev pub judgeLink : Bool → Limits → Tally → Slot → ℕ → Verdict
 judgeLink sound m t s id = verdict (linkTests sound m t s id)
 
-abbrev pub judgeClose : Bool → Limits → Tally → ℕ → ℕ → Verdict
-judgeClose sound m t size twin = verdict (closeTests sound m t size twin)
+abbrev pub judgeClose : Bool → Limits → Tally → ℕ → Bool → ℕ → Verdict
+judgeClose sound m t size hopeless twin = verdict (closeTests sound m t size hopeless twin)
 
 abbrev pub judgeDrop : Bool → Tally → Verdict
 judgeDrop sound t = verdict (dropTests sound t)

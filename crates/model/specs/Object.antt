@@ -1,10 +1,11 @@
 -- docs/RULES.md, section 2: an object is a run of bytes with links; each link has an offset field among the bytes.
-use Prim.Native.Nat.{ℕ}
-use mathlib.Core.List.{List, [], _∷_, _++_}
-use mathlib.Core.Bool.{Bool, _&&_}
+use Prim.Native.Nat.{ℕ, _-_}
+use mathlib.Core.List.{List, [], _∷_, _++_, map}
+use mathlib.Core.Bool.{Bool, false, _&&_, _||_}
 use lib.ListN.{length, getD, replicate}
 use lib.Dec.{eqb, leb}
 use Rattle.lists.specs.Lists.{sameList}
+use Rattle.big_endian.specs.BigEndian.{capacity}
 
 -- a field: its place in its object, its width in bytes, and its inner start: the place in its object that its offset counts from
 pub record Slot : Type 0 where
@@ -64,6 +65,21 @@ newLink w c i o = record { slot = newSlot (sizeOf o) w i; child = c }
 -- a link appended, and with it its own field of zero bytes
 abbrev pub withLink : ℕ → ℕ → ℕ → Object → Object
 withLink w c i o = record { bytes = o .bytes ++ replicate w 0; links = o .links ++ (newLink w c i o ∷ []) }
+
+-- no order can fill the field of an object of n bytes: its child lies past the object's end
+abbrev pub hopeless : ℕ → Slot → Bool
+hopeless n s = leb (capacity (s .width)) (n - s .inner)
+
+-- one of them
+unfoldable pub anyHopeless : ℕ → List Slot → Bool
+anyHopeless n [] = false
+anyHopeless n (s ∷ ss) = hopeless n s || anyHopeless n ss
+
+abbrev pub slotsOf : List Link → List Slot
+slotsOf ls = map (λ (l : Link). l .slot) ls
+
+abbrev pub hopelessObject : Object → Bool
+hopelessObject o = anyHopeless (sizeOf o) (slotsOf (o .links))
 
 -- the comparison at closing: the same bytes and the same links, children by id
 abbrev pub sameSlot : Slot → Slot → Bool

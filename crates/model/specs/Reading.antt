@@ -8,7 +8,7 @@ use lib.ListN.{length, getD}
 use lib.Dec.{eqb}
 use Rattle.lists.specs.Lists.{pick, part, sameList}
 use Rattle.big_endian.specs.BigEndian.{readBig}
-use Rattle.model.specs.Object.{Slot, Link, Object, sameSlot}
+use Rattle.model.specs.Object.{Slot, Link, Object, anyHopeless, sameSlot}
 use Rattle.model.specs.Graph.{Graph}
 
 -- an object's fields in order, each its slot and its child's reading; and last the object's bytes
@@ -27,6 +27,15 @@ readingSize r = length (bytesOf r)
 unfoldable pub fieldCount : Reading → ℕ
 fieldCount (bytes b) = 0
 fieldCount (field s c r) = 1 + fieldCount r
+
+-- its fields' slots
+unfoldable pub slotsIn : Reading → List Slot
+slotsIn (bytes b) = []
+slotsIn (field s c r) = s ∷ slotsIn r
+
+-- one of them can be filled in no order
+abbrev pub hopelessReading : Reading → Bool
+hopelessReading r = anyHopeless (readingSize r) (slotsIn r)
 
 unfoldable pub sameReading : Reading → Reading → Bool
 sameReading (bytes a) (bytes b) = sameList eqb a b

@@ -6,7 +6,7 @@ use lib.ListN.{length}
 use lib.Dec.{ltb}
 use Rattle.lists.specs.Lists.{pick, total, firstThat}
 use Rattle.answer.specs.declared.tally.Tally.{Tally}
-use Rattle.model.specs.Object.{Object, noObject, objectAt, sizeOf, linkCount, withBytes, newSlot, withLink, sameObject}
+use Rattle.model.specs.Object.{Object, noObject, objectAt, sizeOf, linkCount, withBytes, newSlot, withLink, hopelessObject, sameObject}
 use Rattle.model.specs.Graph.{graphOf}
 use Rattle.model.specs.Table.{Outcome, placed, overflow, arranged, tableLength, tableOf}
 use Rattle.model.specs.Judge.{Limits, Verdict, accepted, refused, judgeStart, judgeOpen, judgePut, judgeLink, judgeClose, judgeDrop, judgeTally, judgePack}
@@ -97,7 +97,7 @@ step n (putCall vs) s = settleCall (judgePut true (s .limits) (tallyOf s) (lengt
 step n (linkCall w id i) s =
     settleCall (judgeLink true (s .limits) (tallyOf s) (newSlot (sizeOf (innermost (s .opens))) w i) id) s (leaves (onInnermost (withLink w id i) s))
 step n closeCall s =
-    settleCall (judgeClose true (s .limits) (tallyOf s) (sizeOf (innermost (s .opens))) (twin s)) s
+    settleCall (judgeClose true (s .limits) (tallyOf s) (sizeOf (innermost (s .opens))) (hopelessObject (innermost (s .opens))) (twin s)) s
     (record { told = doneClose (twin s) (tallyOf (sealed s)); after = sealed s })
 step n dropCall s = settleCall (judgeDrop true (tallyOf s)) s (leaves (withOpens (outer (s .opens)) s))
 step n tallyCall s = settleCall (judgeTally true) s (leaves s)
