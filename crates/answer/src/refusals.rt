@@ -23,6 +23,7 @@ pub fn number_of(why: Refusal) -> u64
         Refusal::Overflow(_) => 11,
         Refusal::Unsound => 12,
         Refusal::OutOfRange => 13,
+        Refusal::Hopeless => 16,
     }
 }
 

@@ -49,7 +49,7 @@ pub fn link(store: &[u8], records: &mut [u32], width: u32, id: ObjectId, inner: 
     Answer::Refused(Refusal::Unsound, Tally::none())
 }
 
-// 12 where the session is not sound, 1 nothing open, 5 no bytes, 8 a new object past the limit.
+// 12 where the session is not sound, 1 nothing open, 5 no bytes, 16 a field that no order can fill, 8 a new object past the limit.
 pub fn close(store: &mut [u8], records: &mut [u32]) -> Closing
     ensures { λ r. ⌜ left (toldByClose r) (now (store .exit)) (now (records .exit)) ≡ stepOn close (stores (now (store .entry)) (now (records .entry))) ⌝ }
 {

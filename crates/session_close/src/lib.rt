@@ -3,10 +3,12 @@ use answer::Closing;
 use answer::Refusal;
 use layout::span::innermost;
 use layout::state::read;
+use layout::words::LINKS_AT;
 use session_drop::forget;
 use session_find::find;
 use session_seal::seal;
 use session_tally::tally_of;
+use sound_fields::span_hopeless;
 ghost use mathlib.Core.Path.{_≡_};
 ghost use mathlib.Core.Bool.{true};
 ghost use Rattle.layout.specs.Sound.{sound};
@@ -24,6 +26,9 @@ pub fn close_sound(store: &mut [u8], records: &mut [u32]) -> Closing
     let own = innermost(records, s);
     if own.to == own.from {
         return Closing::Refused(Refusal::EmptyObject, t);
+    }
+    if span_hopeless(records, LINKS_AT + s.objects * 2, own) {
+        return Closing::Refused(Refusal::Hopeless, t);
     }
     let id = find(store, records, s, own);
     if (id.0 as usize) < s.closed {

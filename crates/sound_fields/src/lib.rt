@@ -1,4 +1,7 @@
-// Tests of objects: whether the fields of every open and every closed one are right.
+// Tests of objects: whether the fields of every open and every closed one are right, and whether an order can fill those of the closed ones.
+mod hopeless;
+
+pub use hopeless::span_hopeless;
 use layout::counts::read_counts;
 use layout::link::Link;
 use layout::link::link_at;
@@ -15,7 +18,7 @@ ghost use lib.ListN.{length};
 ghost use Rattle.lists.specs.Lists.{holds};
 ghost use Rattle.model.specs.Object.{slotOk};
 ghost use Rattle.layout.specs.Words.{linkWords, linksOf, openDepth, closedCount, linksAt};
-ghost use Rattle.layout.specs.Fields.{fieldTests, fieldsOk, objectOk};
+ghost use Rattle.layout.specs.Fields.{fieldTests, fieldsOk, objectOk, closedOk};
 ghost use mathlib.Core.Bool.{true};
 ghost use Rattle.layout.specs.Tables.{forAll};
 ghost use Rattle.layout.specs.Decode.{objectIn, openAt, closedAt};
@@ -89,6 +92,17 @@ fn span_ok(store: &[u8], records: &[u32], base: usize, s: Span, kids: usize) -> 
     object_ok(&store[from..to], &records[begin..end], last - first, kids)
 }
 
+// The same of a closed object: an order can fill them too.
+fn closed_span_ok(store: &[u8], records: &[u32], base: usize, s: Span, kids: usize) -> bool
+    requires { ⌜ (base ≡ linksAt (now records)) × Head (length (now store)) (now records) × Within (now records) s ⌝ }
+    ensures { λ r. ⌜ r ≡ closedOk kids (objectIn (now (store .entry)) (now (records .entry)) s) ⌝ }
+{
+    if !span_ok(store, records, base, s, kids) {
+        return false;
+    }
+    !span_hopeless(records, base, s)
+}
+
 // The fields of every open object.
 pub fn opens_ok(store: &[u8], records: &[u32]) -> bool
     requires { ⌜ Head (length (now store)) (now records) × (holds (tableTests (now records)) ≡ true) ⌝ }
@@ -110,7 +124,7 @@ pub fn opens_ok(store: &[u8], records: &[u32]) -> bool
 // The fields of every closed object: its children are below it.
 pub fn closed_ok(store: &[u8], records: &[u32]) -> bool
     requires { ⌜ Head (length (now store)) (now records) × (holds (tableTests (now records)) ≡ true) ⌝ }
-    ensures { λ r. ⌜ r ≡ forAll (λ i. objectOk i (closedAt (now (store .entry)) (now (records .entry)) i)) (closedCount (now (records .entry))) ⌝ }
+    ensures { λ r. ⌜ r ≡ forAll (λ i. closedOk i (closedAt (now (store .entry)) (now (records .entry)) i)) (closedCount (now (records .entry))) ⌝ }
 {
     let k = read_counts(records);
     let p = k.objects;
@@ -118,7 +132,7 @@ pub fn closed_ok(store: &[u8], records: &[u32]) -> bool
     let mut i = k.closed;
     while 0 < i {
         i -= 1;
-        if !span_ok(store, records, base, closed_span(records, p, i), i) {
+        if !closed_span_ok(store, records, base, closed_span(records, p, i), i) {
             return false;
         }
     }
