@@ -10,7 +10,7 @@ use Rattle.answer.specs.declared.tally.Tally.{Tally}
 use Rattle.answer.specs.declared.Refusal.the-variants as Refusal
 use Rattle.big_endian.specs.BigEndian.{capacity, fits}
 use Rattle.model.specs.Bag.{count}
-use Rattle.model.specs.Object.{Link}
+use Rattle.model.specs.Object.{Link, hopelessObject}
 use Rattle.model.specs.Graph.{Graph, graphOf, reached, Ranked, Acyclic, Closed}
 use Rattle.model.specs.Distance.{In}
 use Rattle.model.specs.Table.{placeOf, offset}
@@ -24,7 +24,7 @@ use Rattle.layout.specs.Words.{closedCount, limitsIn, top}
 use Rattle.layout.specs.Decode.{decode}
 use Rattle.layout.specs.Sound.{sound}
 use Rattle.layout.proofs.Facts.{sound-facts, sound-tables}
-use Rattle.steps.specs.Steps.{tallyIn, under, twinIn}
+use Rattle.steps.specs.Steps.{tallyIn, under, innermostIn, twinIn}
 use Rattle.steps.specs.Runs.{close, Stores, stepOn, onStores, lentStep}
 use Rattle.steps.proofs.Tallies.{closed-size, tally-decode}
 use Rattle.steps.proofs.Formed.{sound-formed, decoded-at}
@@ -37,7 +37,7 @@ unfolding testsOf lentStep
 duplicate-never-full s h e =
     let b = s .bytes in
     let w = s .words in
-    duplicate-closes (sound b w) (limitsIn w) (tallyIn b w) (top w - under w) (twinIn b w) h (answers s (onStores close) .exactly (number Refusal.ObjectsFull) .only e)
+    duplicate-closes (sound b w) (limitsIn w) (tallyIn b w) (top w - under w) (hopelessObject (innermostIn b w)) (twinIn b w) h (answers s (onStores close) .exactly (number Refusal.ObjectsFull) .only e)
 
 module _ (b w : List ℕ) (h : sound b w ≡ true) (id : ℕ) (known : id < closedCount w) where
   -- the closed objects

@@ -1,6 +1,6 @@
 -- What holds of each of the eight calls on any lent memory.
 use mathlib.Core.Path.{_≡_, refl, sym, ap, _∙_}
-use Prim.Native.Nat.{ℕ, _≤_}
+use Prim.Native.Nat.{ℕ}
 use mathlib.Core.List.{List}
 use mathlib.Core.Bool.{Bool, true, false}
 use native.Mathlib.Omega.{arith}
@@ -12,9 +12,9 @@ use Rattle.lists.proofs.Whole.{over-front, over-rest}
 use Rattle.answer.specs.Number.{number}
 use Rattle.answer.specs.declared.Refusal.{Refusal}
 use Rattle.answer.specs.declared.Packing.the-variants.{Done}
-use Rattle.model.specs.Judge.{Verdict, accepted, refused, numberOf, lastNumber, Tells, verdict}
+use Rattle.model.specs.Judge.{Verdict, accepted, refused, numberOf, inTable, Tells, verdict}
 use Rattle.model.specs.Told.{Told, refusal, toldBy, toldByClose, toldByPack}
-use Rattle.model.proofs.Refusals.{told-exactly, told-most}
+use Rattle.model.proofs.Refusals.{told-exactly, told-listed}
 use Rattle.model.proofs.Verdicts.{refused-number}
 use Rattle.layout.specs.Words.{closedCount}
 use Rattle.steps.specs.Steps.{Out, CloseOut, tallyIn, settleStep, settleClose, twinIn, closeTwin, closeNew, startStep, openStep, putStep, linkStep, dropStep, tallyStep, closeStep}
@@ -68,8 +68,8 @@ module _ (s : Stores) (c : LentCall) {n : ℕ} (e : n ≡ numberOf (verdict (tes
   number-exactly : (k : ℕ) → Exactly (n ≡ k) (Tells (testsOf s c) k)
   number-exactly k = rw e (told-exactly (testsOf s c) k)
 
-  number-most : n ≤ lastNumber
-  number-most = told-most (testsOf s c) (number-exactly n .only refl)
+  number-listed : inTable n ≡ true
+  number-listed = told-listed (testsOf s c) (number-exactly n .only refl)
 
 -- ---- the calls on the two stores
 
@@ -87,7 +87,7 @@ store-answers s c =
     let e = j .numberIs in
     record {
       exactly = number-exactly s (onStores c) e;
-      inTable = number-most s (onStores c) e;
+      inTable = number-listed s (onStores c) e;
       refused = j .refuses;
       storesStand = j .stands;
       outStands = λ n. refl;
@@ -133,7 +133,7 @@ module _ (s : Stores) (id : ℕ) (out work : List ℕ) where
       let e = j .numberIs in
       record {
         exactly = number-exactly s (pack id out work) e;
-        inTable = number-most s (pack id out work) e;
+        inTable = number-listed s (pack id out work) e;
         refused = j .refuses;
         storesStand = λ n. refl;
         outStands = j .outStands;

@@ -3,6 +3,7 @@ use mathlib.Core.Path.{_≡_, refl}
 use mathlib.Core.Bool.{true}
 use Rattle.lists.specs.Lists.{sameList, total, firstThat, over, holds, zeros}
 use Rattle.big_endian.specs.BigEndian.{bigEndian}
+use Rattle.model.specs.Object.{anyHopeless}
 use Rattle.model.specs.Bag.{one, count, without, zerosOf, lastOnce, least}
 use Rattle.model.specs.Graph.{kidsOf, waits, reachDown, reached}
 use Rattle.model.specs.Order.{orderFrom, orderBy}
@@ -22,5 +23,5 @@ use Rattle.claims.specs.Demand.{run}
 use Rattle.claims.specs.Cases.{idsTold, countsTold, memoryRight, right, allRight}
 
 pub cases-right : allRight cases ≡ true
-unfolding allRight right memoryRight countsTold idsTold run lentStep packStep stepOn startStep openStep putStep linkStep dropStep tallyStep twinIn closeStep opensTo closedTo decode headTests headOk tableTests soundTests sound fieldTests fieldsOk linksOf chain chained forAll verdict arranged firstFit tryOrder tryLast unfitFrom unfitLinks offset before tableLength tableOf tableFrom objectBytes filled kahnOrder distanceOrder distance distancesBy beyond relaxAll relax orderBy orderFrom reached reachDown waits kidsOf one count without zerosOf lastOnce least sameList total firstThat over holds zeros bigEndian
+unfolding allRight right memoryRight countsTold idsTold run lentStep packStep stepOn startStep openStep putStep linkStep dropStep tallyStep twinIn closeStep opensTo closedTo decode headTests headOk tableTests soundTests sound fieldTests fieldsOk linksOf chain chained forAll verdict anyHopeless arranged firstFit tryOrder tryLast unfitFrom unfitLinks offset before tableLength tableOf tableFrom objectBytes filled kahnOrder distanceOrder distance distancesBy beyond relaxAll relax orderBy orderFrom reached reachDown waits kidsOf one count without zerosOf lastOnce least sameList total firstThat over holds zeros bigEndian
 cases-right = refl

@@ -1,6 +1,7 @@
 pub mod Surplus
 pub mod Calls
 pub mod Always
+pub mod Hopeless
 pub mod Packs
 pub mod Orders
 pub mod Demand

@@ -11,7 +11,7 @@ use lib.Dec.{ltb}
 use Rattle.lists.specs.Lists.{pick, part}
 use Rattle.lists.proofs.Over.{over-drop}
 use Rattle.lists.proofs.Runs.{length-part}
-use Rattle.model.specs.Object.{Link, sizeOf, newSlot}
+use Rattle.model.specs.Object.{Link, sizeOf, newSlot, hopelessObject}
 use Rattle.model.specs.Judge.{Limits, Verdict, accepted, refused, verdict, judgeOpen, judgePut, judgeLink, judgeClose, judgeDrop, judgeTally}
 use Rattle.model.specs.Session.{Needs, Session, tallyOf, innermost, twin, Left, settleCall, step}
 use Rattle.model.proofs.Verdicts.{passes}
@@ -98,7 +98,7 @@ step-limits needs bytes words open' a k = same-limits (judgeOpen true (tallyOf a
 step-limits needs bytes words (put vs) a k = same-limits (judgePut true (a .limits) (tallyOf a) (length vs)) a _ refl
 step-limits needs bytes words (link width id inner) a k =
     same-limits (judgeLink true (a .limits) (tallyOf a) (newSlot (sizeOf (innermost (a .opens))) width inner) id) a _ refl
-step-limits needs bytes words close a k = same-limits (judgeClose true (a .limits) (tallyOf a) (sizeOf (innermost (a .opens))) (twin a)) a _ refl
+step-limits needs bytes words close a k = same-limits (judgeClose true (a .limits) (tallyOf a) (sizeOf (innermost (a .opens))) (hopelessObject (innermost (a .opens))) (twin a)) a _ refl
 step-limits needs bytes words drop' a k = same-limits (judgeDrop true (tallyOf a)) a _ refl
 step-limits needs bytes words tally a k = same-limits (judgeTally true) a _ refl
 
@@ -148,7 +148,7 @@ module _ (s : Stores) where
     where
       go : (x : Bool) → ltb (twinIn b w) (closedCount w) ≡ x → drop (needOf (limitsIn w)) (pick x (closeTwin b w) (closeNew b w) .words) ≡ drop (needOf (limitsIn w)) w
       go true f = drop-past k _
-      go false f = seal-past k (leb-false (objectLimit w) (closedCount w) (rw (le-leb (closedCount w) (twinIn b w) (ltb-false _ _ f)) at (passes _ e 3)))
+      go false f = seal-past k (leb-false (objectLimit w) (closedCount w) (rw (le-leb (closedCount w) (twinIn b w) (ltb-false _ _ f)) at (passes _ e 4)))
 
   past : (c : StoreCall) → starts c ≡ false → accepts c → Sound b w → Past (limitsIn w) c
   unfolding testsOf stepOn openStep putStep linkStep dropStep tallyStep

@@ -5,16 +5,15 @@ use mathlib.Core.List.{List, [], _∷_}
 use mathlib.Core.Bool.{true, true≢false}
 use native.Mathlib.Omega.{arith}
 use lib.ListN.{length}
-use lib.Dec.{leb}
 use borrow.Author.Tests.{leb-false, not-false}
 use Rattle.lists.specs.Lists.{pick}
 use Rattle.answer.specs.Number.{number, noTally}
 use Rattle.model.specs.Bag.{count}
-use Rattle.model.specs.Object.{noObject, sizeOf, withBytes, slotOk, newSlot, withLink}
+use Rattle.model.specs.Object.{noObject, sizeOf, withBytes, slotOk, newSlot, withLink, hopelessObject}
 use Rattle.model.specs.Graph.{Graph, graphOf, reached}
 use Rattle.model.specs.Table.{Outcome, placed, overflow, arranged, tableLength, tableOf, Sized}
 use Rattle.model.specs.Reading.{Reading, readingAt, readings}
-use Rattle.model.specs.Judge.{Limits, Verdict, accepted, refused, judgeStart, judgeOpen, judgePut, judgeLink, judgeClose, judgeDrop, judgeTally, judgePack}
+use Rattle.model.specs.Judge.{Limits, Verdict, accepted, refused, noTallyBeside, judgeStart, judgeOpen, judgePut, judgeLink, judgeClose, judgeDrop, judgeTally, judgePack}
 use Rattle.model.specs.Told.{doneClose, donePack, refusal}
 use Rattle.model.specs.Session.{Needs, Session, tallyOf, started, withOpens, innermost, outer, onInnermost, twin, sealed, SessionCall, startCall, openCall, putCall, linkCall, closeCall, dropCall, tallyCall, Left, settleCall, step, PackLeft, content, tableIn, settlePack, pack, Call, sessionCall, packCall, afterCall}
 use Rattle.model.specs.History.{History, counts, begun, judged, accept, next, after, idTold, tell, expected, Packed, PackAgrees, Agrees, AllAgree}
@@ -26,7 +25,7 @@ use Rattle.model.proofs.Outcomes.{placed-arranged}
 use Rattle.model.proofs.Verdicts.{passes, beside-number, refused-number}
 use Rattle.model.proofs.Twins.{distinct-id, readings-count}
 use Rattle.model.proofs.Slots.{slot-start}
-use Rattle.model.proofs.Mirrors.{Mirrors, mirrors-started, mirrors-limits, mirrors-counts, mirrors-size, mirrors-acyclic, mirrors-fields, mirrors-twin, mirrors-open, mirrors-put, mirrors-link, mirrors-close, mirrors-drop}
+use Rattle.model.proofs.Mirrors.{Mirrors, mirrors-started, mirrors-limits, mirrors-counts, mirrors-size, mirrors-hopeless, mirrors-acyclic, mirrors-fields, mirrors-twin, mirrors-open, mirrors-put, mirrors-link, mirrors-close, mirrors-drop}
 
 -- ---- the calls on a session
 
@@ -65,8 +64,8 @@ module _ (n : Needs) {s : Session} {h : History} (m : Mirrors s h) where
       settled (linkCall w id i) (judgeLink true (s .limits) (tallyOf s) slot id) 0 (onInnermost (withLink w id i) s) (cc (mirrors-counts m, mirrors-limits m, mirrors-size m)) refl
       (λ e. mirrors-link m w id i (leb-false (length (s .closed)) id (passes _ e 3)) (slot-start slot (not-false (slotOk slot) (passes _ e 2))))
   step-follows closeCall =
-      settled closeCall (judgeClose true (s .limits) (tallyOf s) (sizeOf (innermost (s .opens))) (twin s)) (twin s) (sealed s)
-      (cc (mirrors-counts m, mirrors-limits m, mirrors-size m, mirrors-twin m)) (mirrors-twin m) (λ e. mirrors-close m)
+      settled closeCall (judgeClose true (s .limits) (tallyOf s) (sizeOf (innermost (s .opens))) (hopelessObject (innermost (s .opens))) (twin s)) (twin s) (sealed s)
+      (cc (mirrors-counts m, mirrors-limits m, mirrors-size m, mirrors-hopeless m, mirrors-twin m)) (mirrors-twin m) (λ e. mirrors-close m)
   step-follows dropCall = settled dropCall (judgeDrop true (tallyOf s)) 0 (withOpens (outer (s .opens)) s) (cc (mirrors-counts m)) refl (λ e. mirrors-drop m)
   step-follows tallyCall = settled tallyCall (judgeTally true) 0 s refl refl (λ e. m)
 
@@ -115,7 +114,7 @@ module _ {s : Session} {h : History} (m : Mirrors s h) (id : ℕ) where
       settled-pack : (v : Verdict) (t : List ℕ) → (v ≡ accepted → Packed h id (packing t)) → PackAgrees h id (settlePack v s (packing t))
       settled-pack accepted t k = record { counted = mirrors-counts m; packed = λ e. k refl }
       settled-pack (refused why) t k = record {
-        counted = beside-number why (tallyOf s) ∙ ap (pick (leb 12 (number why)) noTally) (mirrors-counts m);
+        counted = beside-number why (tallyOf s) ∙ ap (pick (noTallyBeside (number why)) noTally) (mirrors-counts m);
         packed = λ e. absurd (omega (arith, refused-number why));
       }
 

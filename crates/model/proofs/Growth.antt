@@ -8,10 +8,10 @@ use lib.ListN.{length, length-append, length-replicate}
 use Rattle.lists.specs.Lists.{total}
 use Rattle.lists.proofs.Elements.{total-append}
 use Rattle.model.specs.Bag.{one, count}
-use Rattle.model.specs.Object.{Link, Object, noObject, sizeOf, linkCount, withBytes, newLink, withLink}
+use Rattle.model.specs.Object.{Link, Object, noObject, sizeOf, linkCount, withBytes, newLink, withLink, slotsOf, hopelessObject}
 use Rattle.model.specs.Graph.{kidsOf}
 use Rattle.model.specs.Table.{SlotIn, FieldsIn}
-use Rattle.model.specs.Reading.{Reading, readingSize, fieldCount, readLinks, readingAt, readObject, readingsFrom, readings}
+use Rattle.model.specs.Reading.{Reading, readingSize, fieldCount, slotsIn, hopelessReading, readLinks, readingAt, readObject, readingsFrom, readings}
 use Rattle.model.specs.History.{putOn, fieldOn, linkOn}
 use Rattle.model.proofs.Bags.{Same, same, other, sameOr}
 use Rattle.model.proofs.Filled.{slot-room}
@@ -34,12 +34,20 @@ unfolding readLinks fieldCount
 count-links ρ [] b = refl
 count-links ρ (l ∷ ls) b = omega (arith, count-links ρ ls b)
 
+slots-links : (ρ : ℕ → Reading) (ls : List Link) (b : List ℕ) → slotsIn (readLinks ρ ls b) ≡ slotsOf ls
+unfolding readLinks slotsIn
+slots-links ρ [] b = refl
+slots-links ρ (l ∷ ls) b = rw (slots-links ρ ls b)
+
 module _ (rs : List Reading) (o : Object) where
   pub read-size : readingSize (readObject rs o) ≡ sizeOf o
   read-size = ap length (read-bytes (readingAt rs) (o .links) (o .bytes))
 
   pub read-count : fieldCount (readObject rs o) ≡ linkCount o
   read-count = count-links (readingAt rs) (o .links) (o .bytes)
+
+  pub read-hopeless : hopelessReading (readObject rs o) ≡ hopelessObject o
+  read-hopeless = rw (read-size, slots-links (readingAt rs) (o .links) (o .bytes))
 
   pub read-put : (vs : List ℕ) → readObject rs (withBytes vs o) ≡ putOn vs (readObject rs o)
   read-put vs = put-links (readingAt rs) (o .links) (o .bytes) vs

@@ -12,6 +12,7 @@ pub mod Lengths
 pub mod Outcomes
 pub mod Slots
 pub mod Always
+pub mod Hopeless
 pub mod Verdicts
 pub mod Twins
 pub mod Growth

@@ -9,15 +9,15 @@ use lib.Dec.{ltb}
 use borrow.Author.Tests.{ltb-false}
 use Rattle.lists.specs.Lists.{pick, firstThat}
 use Rattle.lists.proofs.Elements.{Each, none, more, each-then, map-each, at-snoc, total-map}
-use Rattle.model.specs.Object.{Object, noObject, objectAt, sizeOf, linkCount, withBytes, withLink}
+use Rattle.model.specs.Object.{Object, noObject, objectAt, sizeOf, linkCount, withBytes, withLink, hopelessObject}
 use Rattle.model.specs.Graph.{graphOf, Ranked, Acyclic}
 use Rattle.model.specs.Table.{Fields}
-use Rattle.model.specs.Reading.{Reading, readingSize, fieldCount, sameReading, readLinks, readObject, readingsFrom, readings}
+use Rattle.model.specs.Reading.{Reading, readingSize, fieldCount, hopelessReading, sameReading, readLinks, readObject, readingsFrom, readings}
 use Rattle.model.specs.Judge.{Limits}
 use Rattle.model.specs.Session.{Session, tallyOf, started, withOpens, innermost, outer, onInnermost, twin, sealed, SessionCall, openCall, putCall, linkCall, closeCall, dropCall}
 use Rattle.model.specs.History.{History, historyOf, counts, begun, keepOpens, innermostReading, others, idOf, accept}
 use Rattle.model.proofs.Readings.{read-more, readings-snoc}
-use Rattle.model.proofs.Growth.{read-size, read-count, read-put, read-link, total-readings, Formed, formed-none, formed-more, formed-put, formed-link}
+use Rattle.model.proofs.Growth.{read-size, read-count, read-hopeless, read-put, read-link, total-readings, Formed, formed-none, formed-more, formed-put, formed-link}
 use Rattle.model.proofs.Twins.{Distinct, distinct-snoc, readings-count, twin-id}
 
 -- ---- the counts of what a session's objects read as
@@ -86,9 +86,15 @@ module _ {s : Session} {h : History} (m : Mirrors s h) where
   pub mirrors-counts : tallyOf s ≡ counts h
   mirrors-counts = history-counts s ∙ ap (λ (k : History). counts k) (m .read)
 
+  -- what an object and its reading have alike
+  inner-alike : {A : Type 0} (f : Object → A) (k : Reading → A) → ((qs : List Reading) (x : Object) → k (readObject qs x) ≡ f x) → f o ≡ k (innermostReading (h .opens))
+  inner-alike f k e = sym (e rs o) ∙ ap k (sym (inner-map rs (s .opens))) ∙ ap (λ (x : History). k (innermostReading (x .opens))) (m .read)
+
   pub mirrors-size : sizeOf o ≡ readingSize (innermostReading (h .opens))
-  mirrors-size =
-      sym (read-size rs o) ∙ ap (λ (r : Reading). readingSize r) (sym (inner-map rs (s .opens))) ∙ ap (λ (k : History). readingSize (innermostReading (k .opens))) (m .read)
+  mirrors-size = inner-alike sizeOf readingSize read-size
+
+  pub mirrors-hopeless : hopelessObject o ≡ hopelessReading (innermostReading (h .opens))
+  mirrors-hopeless = inner-alike hopelessObject hopelessReading read-hopeless
 
   pub mirrors-acyclic : Acyclic (graphOf (s .closed))
   unfolding Ranked

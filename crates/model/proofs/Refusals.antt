@@ -1,6 +1,6 @@
 -- How a verdict comes about, and the number that it tells.
 use mathlib.Core.Path.{_≡_, refl, sym}
-use Prim.Native.Nat.{ℕ, _≤_, _<_}
+use Prim.Native.Nat.{ℕ, _<_}
 use mathlib.Core.List.{List, [], _∷_}
 use mathlib.Core.Bool.{Bool, true, false}
 use native.Mathlib.Omega.{arith}
@@ -11,7 +11,7 @@ use Rattle.lists.proofs.Same.{and-left}
 use Rattle.answer.specs.Number.{number}
 use Rattle.answer.specs.declared.tally.Tally.{Tally}
 use Rattle.answer.specs.declared.Refusal.the-variants as Refusal
-use Rattle.model.specs.Judge.{Limits, Verdict, accepted, refused, numberOf, lastNumber, Test, verdict, Tells, none as tells-none, this as tells-this, next as tells-next, closeTests}
+use Rattle.model.specs.Judge.{Limits, Verdict, accepted, refused, numberOf, inTable, Test, verdict, Tells, none as tells-none, this as tells-this, next as tells-next, closeTests}
 use Rattle.model.proofs.Verdicts.{number-range}
 
 -- tests that do not apply, and then one that does, or the end
@@ -47,17 +47,18 @@ told-when _ k (tells-next {ts = ts} h r) = rw h (told-when ts k r)
 pub told-exactly : (ts : List Test) (k : ℕ) → Exactly (numberOf (verdict ts) ≡ k) (Tells ts k)
 told-exactly ts k = record { only = told-only ts k; when = told-when ts k }
 
-pub told-most : (ts : List Test) {k : ℕ} → Tells ts k → k ≤ lastNumber
-told-most _ (tells-none e) = omega arith
-told-most _ (tells-this {t = t} h e) = omega (arith, number-range (t .tells) .1)
-told-most _ (tells-next {ts = ts} h r) = told-most ts r
+pub told-listed : (ts : List Test) {k : ℕ} → Tells ts k → inTable k ≡ true
+told-listed _ (tells-none e) = rw e
+told-listed _ (tells-this {t = t} h e) = rw e (number-range (t .tells) .1)
+told-listed _ (tells-next {ts = ts} h r) = told-listed ts r
 
 -- a duplicate is never told that the objects are full
-module _ (sound : Bool) (m : Limits) (t : Tally) (size twin : ℕ) (h : twin < t .objects) where
-  pub duplicate-closes : Tells (closeTests sound m t size twin) (number Refusal.ObjectsFull) → ⊥
+module _ (sound : Bool) (m : Limits) (t : Tally) (size : ℕ) (hopeless : Bool) (twin : ℕ) (h : twin < t .objects) where
+  pub duplicate-closes : Tells (closeTests sound m t size hopeless twin) (number Refusal.ObjectsFull) → ⊥
   duplicate-closes (tells-this _ e) = omega arith
   duplicate-closes (tells-next _ (tells-this _ e)) = omega arith
   duplicate-closes (tells-next _ (tells-next _ (tells-this _ e))) = omega arith
-  duplicate-closes (tells-next _ (tells-next _ (tells-next _ (tells-this a _)))) =
+  duplicate-closes (tells-next _ (tells-next _ (tells-next _ (tells-this _ e)))) = omega arith
+  duplicate-closes (tells-next _ (tells-next _ (tells-next _ (tells-next _ (tells-this a _))))) =
       omega (arith, leb-true (t .objects) twin (and-left (leb (t .objects) twin) (leb (m .objects) (t .objects)) a))
-  duplicate-closes (tells-next _ (tells-next _ (tells-next _ (tells-next _ (tells-none e))))) = omega arith
+  duplicate-closes (tells-next _ (tells-next _ (tells-next _ (tells-next _ (tells-next _ (tells-none e)))))) = omega arith

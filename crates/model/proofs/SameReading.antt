@@ -1,10 +1,11 @@
--- `sameSlot` decides equality of slots, and `sameReading` that of readings.
+-- `sameSlot` decides equality of slots, and `sameReading` that of readings; objects that are the same at closing are equal.
 use mathlib.Core.Path.{_≡_, refl, ap}
 use mathlib.Core.Bool.{true}
 use lib.Dec.{eqb}
 use borrow.Author.Tests.{eq-eqb, eqb-true}
+use Rattle.lists.specs.Lists.{sameList}
 use Rattle.lists.proofs.Same.{and-left, and-right, same-equal, same-self}
-use Rattle.model.specs.Object.{Slot, sameSlot}
+use Rattle.model.specs.Object.{Slot, Link, Object, sameSlot, sameLink, sameObject}
 use Rattle.model.specs.Reading.{Reading, bytes, field, sameReading}
 
 slot-equal : (s t : Slot) → sameSlot s t ≡ true → s ≡ t
@@ -17,6 +18,18 @@ slot-equal s t e =
 
 slot-self : (s : Slot) → sameSlot s s ≡ true
 slot-self s = rw (eq-eqb (s .at) (s .at) refl, eq-eqb (s .width) (s .width) refl, eq-eqb (s .inner) (s .inner) refl)
+
+link-equal : (l m : Link) → sameLink l m ≡ true → l ≡ m
+link-equal l m e =
+    let slot = slot-equal (l .slot) (m .slot) (and-left (sameSlot (l .slot) (m .slot)) _ e) in
+    let child : l .child ≡ m .child = eqb-true _ _ (and-right (sameSlot (l .slot) (m .slot)) _ e) in
+    λ i. record { slot = slot i; child = child i }
+
+pub object-equal : (o p : Object) → sameObject o p ≡ true → o ≡ p
+object-equal o p e =
+    let bytes = same-equal eqb eqb-true (o .bytes) (p .bytes) (and-left (sameList eqb (o .bytes) (p .bytes)) _ e) in
+    let links = same-equal sameLink link-equal (o .links) (p .links) (and-right (sameList eqb (o .bytes) (p .bytes)) _ e) in
+    λ i. record { bytes = bytes i; links = links i }
 
 pub reading-equal : (r s : Reading) → sameReading r s ≡ true → r ≡ s
 unfolding sameReading

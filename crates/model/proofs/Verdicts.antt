@@ -1,17 +1,16 @@
 -- What an accepted call says of its tests, and what a refusal comes with.
 use mathlib.Core.Path.{_≡_, refl}
-use Prim.Native.Nat.{ℕ, zero, suc, _≤_, _<_}
+use Prim.Native.Nat.{ℕ, zero, suc, _<_}
 use mathlib.Core.List.{List, [], _∷_}
 use mathlib.Core.Bool.{Bool, true, false}
 use native.Mathlib.Omega.{arith}
 use lib.ListN.{getD}
-use lib.Dec.{leb}
 use Rattle.lists.specs.Lists.{pick}
 use Rattle.answer.specs.Number.{number, beside, noTally}
 use Rattle.answer.specs.declared.tally.Tally.{Tally}
 use Rattle.answer.specs.declared.Refusal.{Refusal}
 use Rattle.answer.specs.declared.Refusal.the-variants as Refusal
-use Rattle.model.specs.Judge.{accepted, refused, lastNumber, Test, when, verdict}
+use Rattle.model.specs.Judge.{accepted, refused, inTable, noTallyBeside, Test, when, verdict}
 
 -- no test of an accepted call applies
 pub passes : (ts : List Test) → verdict ts ≡ accepted → (i : ℕ) → getD ts i (when false Refusal.Unsound) .applies ≡ false
@@ -26,7 +25,7 @@ passes (t ∷ ts) e i = go (t .applies) refl (passes ts) e i
     go false f r z (suc i) = r z i
 
 -- 12 and 13 come with zeros, the others with the true tally
-pub beside-number : (why : Refusal) (t : Tally) → beside why t ≡ pick (leb 12 (number why)) noTally t
+pub beside-number : (why : Refusal) (t : Tally) → beside why t ≡ pick (noTallyBeside (number why)) noTally t
 beside-number Refusal.NothingOpen t = refl
 beside-number Refusal.DepthFull t = refl
 beside-number Refusal.BadField t = refl
@@ -40,22 +39,24 @@ beside-number Refusal.OutputShort t = refl
 beside-number (Refusal.Overflow o) t = refl
 beside-number Refusal.Unsound t = refl
 beside-number Refusal.OutOfRange t = refl
+beside-number Refusal.Hopeless t = refl
 
--- the number of a refusal is from 1 to the last
-pub number-range : (why : Refusal) → (0 < number why) × (number why ≤ lastNumber)
-number-range Refusal.NothingOpen = (omega arith, omega arith)
-number-range Refusal.DepthFull = (omega arith, omega arith)
-number-range Refusal.BadField = (omega arith, omega arith)
-number-range Refusal.NotClosed = (omega arith, omega arith)
-number-range Refusal.EmptyObject = (omega arith, omega arith)
-number-range Refusal.StoreFull = (omega arith, omega arith)
-number-range Refusal.LinksFull = (omega arith, omega arith)
-number-range Refusal.ObjectsFull = (omega arith, omega arith)
-number-range Refusal.ObjectOpen = (omega arith, omega arith)
-number-range Refusal.OutputShort = (omega arith, omega arith)
-number-range (Refusal.Overflow o) = (omega arith, omega arith)
-number-range Refusal.Unsound = (omega arith, omega arith)
-number-range Refusal.OutOfRange = (omega arith, omega arith)
+-- the number of a refusal is in the table, and not 0
+pub number-range : (why : Refusal) → (0 < number why) × (inTable (number why) ≡ true)
+number-range Refusal.NothingOpen = (omega arith, refl)
+number-range Refusal.DepthFull = (omega arith, refl)
+number-range Refusal.BadField = (omega arith, refl)
+number-range Refusal.NotClosed = (omega arith, refl)
+number-range Refusal.EmptyObject = (omega arith, refl)
+number-range Refusal.StoreFull = (omega arith, refl)
+number-range Refusal.LinksFull = (omega arith, refl)
+number-range Refusal.ObjectsFull = (omega arith, refl)
+number-range Refusal.ObjectOpen = (omega arith, refl)
+number-range Refusal.OutputShort = (omega arith, refl)
+number-range (Refusal.Overflow o) = (omega arith, refl)
+number-range Refusal.Unsound = (omega arith, refl)
+number-range Refusal.OutOfRange = (omega arith, refl)
+number-range Refusal.Hopeless = (omega arith, refl)
 
 -- 0 is no refusal's number
 pub refused-number : (why : Refusal) → 0 < number why

@@ -13,18 +13,17 @@ use Rattle.regions.specs.Region.{Kept}
 use Rattle.regions.proofs.Frame.{kept-then, kept-less, kept-at}
 use Rattle.model.specs.Graph.{graphOf}
 use Rattle.layout.specs.Words.{linkLimit, closedCount, linkBeginsAt, linkWords, linkArea}
-use Rattle.layout.specs.Fields.{objectOk}
 use Rattle.layout.specs.Decode.{closedAt, decode}
 use Rattle.layout.specs.Decode as store
 use Rattle.layout.specs.Known.{Sound, Read}
 use Rattle.layout.specs.declared.state.State.{State}
 use Rattle.layout.proofs.Facts.{sound-known}
-use Rattle.steps.proofs.Tables.{forAll-at}
 use Rattle.work.specs.Areas.{Apart}
 use Rattle.work.specs.declared.Areas.{Areas}
 use Rattle.order_graph.specs.Graph.{linksFrom, linksAt, linkCount, graphIn, graphOn, TidyNode, Stands}
 use Rattle.pack_copy.specs.Copy.{AreasFor, Standing, NodeOf, NodesIn, LinksIn, NodesCopied, LinksCopied, Copyable, Copied}
 use Rattle.steps.proofs.Tallies.{closed-at}
+use Rattle.steps.proofs.Formed.{closed-right}
 use Rattle.pack_copy.proofs.ClosedObjects.{entries, closed-past, links-region, fields-right, sound-acyclic}
 
 module _ {a : Areas} {b w m m₂ : List ℕ} (s : Sound b w) (f : AreasFor w a) (room : a .end ≤ length m) (kept : Kept 0 (a .keys) m m₂)
@@ -65,8 +64,7 @@ module _ {a : Areas} {b w m m₂ : List ℕ} (s : Sound b w) (f : AreasFor w a) 
   tidy-node i h =
       let o = node-words i h in
       let e = entries s i h in
-      let ok = forAll-at (λ i. objectOk i (closedAt b w i)) (closedCount w) (s .closed) i h in
-      let right = fields-right i 0 (closedAt b w i .bytes) front (linkCount a front i) (linksAt a front i) (rw (node-links i h) ok) in
+      let right = fields-right i 0 (closedAt b w i .bytes) front (linkCount a front i) (linksAt a front i) (rw (node-links i h) (closed-right s i h)) in
       record {
         few = omega arith;
         within = omega arith;

@@ -9,7 +9,7 @@ use lib.ListN.{getD}
 use Rattle.lists.specs.Lists.{part, firstThat}
 use Rattle.lists.proofs.Runs.{length-part}
 use Rattle.lists.proofs.Frames.{first-most}
-use Rattle.model.specs.Object.{Object, sizeOf, sameObject}
+use Rattle.model.specs.Object.{Object, sizeOf, hopelessObject, sameObject}
 use Rattle.model.specs.Session.{innermost, outer, twin}
 use Rattle.layout.specs.Words.{closedCount, openDepth, endsAt, linkEndsAt, top, linkTop}
 use Rattle.layout.specs.Fields.{objectOk}
@@ -54,6 +54,9 @@ module _ (b w : List ℕ) where
     pub twin-decode : twinIn b w ≡ twin (decode b w)
     unfolding twinIn decode
     twin-decode = ap (λ (o : Object). firstThat (sameObject o) (closedTo b w (closedCount w))) (sym innermost-decode)
+
+    pub hopeless-decode : hopelessObject (innermostIn b w) ≡ hopelessObject (innermost (decode b w .opens))
+    hopeless-decode = ap hopelessObject (sym innermost-decode)
 
     -- by its edges
     pub inner-is : innermostIn b w ≡ record { bytes = part (under w) (top w) b; links = linksFrom w (linkUnder w) (linkTop w) }

@@ -2,6 +2,7 @@
 use mathlib.Core.Path.{_≡_, refl, sym, ap, subst₂, _∙_}
 use Prim.Native.Nat.{ℕ, suc, _+_, _-_, _*_, _≤_, _<_}
 use mathlib.Core.List.{List, [], _∷_, _++_}
+use mathlib.Core.Bool.{true, false}
 use native.Mathlib.Decide.{decLe}
 use native.Mathlib.Omega.{arith}
 use lib.ListN.{length, getD, length-set}
@@ -9,9 +10,10 @@ use lib.Seq.{lt-length-set, getD-set-same, getD-set-other}
 use Rattle.lists.specs.Lists.{part, over}
 use Rattle.lists.proofs.Frames.{part-same, length-moved, moved-before, moved-after, part-moved, length-cleared, cleared-before, cleared-in, cleared-after}
 use Rattle.answer.specs.Tally.{added}
-use Rattle.model.specs.Object.{Object}
+use Rattle.model.specs.Object.{Object, hopelessObject}
 use Rattle.model.specs.Session.{Session, innermost, outer}
 use Rattle.layout.specs.Words.{objectLimitAt, closedCountAt, openDepthAt, objectLimit, closedCount, openDepth, endsAt, linkEndsAt, beginsAt, linkBeginsAt, linksAt, linkWords, linksOf, top, linkTop, low, linkLow}
+use Rattle.layout.specs.Fields.{closedOk}
 use Rattle.layout.specs.Decode.{linksFrom, decode}
 use Rattle.layout.specs.Known.{Sound}
 use Rattle.layout.proofs.Links.{link-words}
@@ -167,13 +169,17 @@ module _ {b w : List ℕ} (s : Sound b w) (h : 0 < openDepth w) (some : under w 
   abbrev closes : List Object → Object → Session
   closes os o = record { limits = decode b w .limits; opens = os; closed = decode b w .closed ++ (o ∷ []) }
 
-  pub seal-leaves : Leaves b w (sealedBytes b w) (sealedWords w) (added (tallyIn b w)) (closes (outer (decode b w .opens)) (innermost (decode b w .opens)))
+  -- its fields are right, and an order can fill them
+  closes-right : hopelessObject (innermostIn b w) ≡ false → closedOk (closedCount w) (innermostIn b w) ≡ true
+  closes-right hopes = rw (inner-right b w h s, hopes)
+
+  pub seal-leaves : hopelessObject (innermostIn b w) ≡ false → Leaves b w (sealedBytes b w) (sealedWords w) (added (tallyIn b w)) (closes (outer (decode b w .opens)) (innermost (decode b w .opens)))
   unfolding decode
-  seal-leaves =
+  seal-leaves hopes =
       let e = edges in
       let f = count in
       let closed =
-      more-closed (innermostIn b w) (kept-closed s kept) begin (rw (kept .objects) linkBegin) (omega arith) (omega arith) sealed-bytes sealed-links (inner-right b w h s) in
+      more-closed (innermostIn b w) (kept-closed s kept) begin (rw (kept .objects) linkBegin) (omega arith) (omega arith) sealed-bytes sealed-links (closes-right hopes) in
       subst₂ (λ os o. Leaves b w (sealedBytes b w) (sealedWords w) (added (tallyIn b w)) (closes os o)) (sym (outer-decode b w)) (sym (innermost-decode b w h))
       (sides-leave s kept (kept-opens s kept (omega arith)) closed depth count (omega arith) (omega arith) (omega arith) (omega arith)
       (λ i a c. cleared-in (under w) (newLow w - under w) moved zeros-fit i a (omega arith))

@@ -13,7 +13,7 @@ use Rattle.model.specs.Object.{Object}
 use Rattle.model.specs.Judge.{mostOpen, Limits}
 use Rattle.model.specs.Session.{Session, tallyOf}
 use Rattle.layout.specs.Words.{objectLimit, closedCount, openDepth, endsAt, linkEndsAt, beginsAt, linkBeginsAt, storeLength, linkLimit, limitsIn, top, linkTop, low, linkLow}
-use Rattle.layout.specs.Fields.{objectOk}
+use Rattle.layout.specs.Fields.{objectOk, closedOk}
 use Rattle.layout.specs.Decode.{linksFrom, openAt, closedAt, opensTo, closedTo, decode}
 use Rattle.layout.specs.Known.{Head, Sound}
 use Rattle.layout.proofs.Entries.{falling-table}
@@ -72,7 +72,7 @@ pub record Opens (n t l : ℕ) (os : List Object) (b w : List ℕ) : Type 0 wher
 pub record Closed (n t l : ℕ) (os : List Object) (b w : List ℕ) : Type 0 where
   pub begins : Begins 1 beginsAt n t w
   pub linkBegins : Begins 0 (linkBeginsAt w) n l w
-  pub right : (i : ℕ) → i < n → objectOk i (closedAt b w i) ≡ true
+  pub right : (i : ℕ) → i < n → closedOk i (closedAt b w i) ≡ true
   pub are : closedTo b w n ≡ os
 
 module _ (b w : List ℕ) where
@@ -113,7 +113,7 @@ module _ {n t l t' l' : ℕ} {os : List Object} {b w : List ℕ} (o : Object) wh
 
   -- one more closed object, in front of the others
   pub more-closed : Closed n t l os b w → getD w (beginsAt + n + 1) 0 ≡ t' → getD w (linkBeginsAt w + n + 1) 0 ≡ l' → t' < t → l' ≤ l
-      → part t' t b ≡ o .bytes → linksFrom w l' l ≡ o .links → objectOk n o ≡ true → Closed (suc n) t' l' (os ++ (o ∷ [])) b w
+      → part t' t b ≡ o .bytes → linksFrom w l' l ≡ o .links → closedOk n o ≡ true → Closed (suc n) t' l' (os ++ (o ∷ [])) b w
   unfolding closedTo
   more-closed x begin linkBegin h k bytes links right =
       let made : closedAt b w n ≡ o =
@@ -123,7 +123,7 @@ module _ {n t l t' l' : ℕ} {os : List Object} {b w : List ℕ} (o : Object) wh
       record {
         begins = more-begins (x .begins) begin (omega arith);
         linkBegins = more-begins (x .linkBegins) linkBegin (omega arith);
-        right = below-more (λ i. objectOk i (closedAt b w i) ≡ true) n (x .right) (ap (objectOk n) made ∙ right);
+        right = below-more (λ i. closedOk i (closedAt b w i) ≡ true) n (x .right) (ap (closedOk n) made ∙ right);
         are = ap₂ (λ (ps : List Object) (p : Object). ps ++ (p ∷ [])) (x .are) made;
       }
 
@@ -148,7 +148,7 @@ module _ {d : ℕ} {b w b' w' : List ℕ} (s : Sound b w) (k : ObjectsKept d b w
       record {
         begins = kept-begins (k .begins) 1 (t .begins .next);
         linkBegins = rw (k .objects) (kept-begins (k .linkBegins) 0 (t .linkBegins .next));
-        right = λ i h. ap (objectOk i) (closed-kept s k i h) ∙ forAll-at (λ j. objectOk j (closedAt b w j)) (closedCount w) (s .closed) i h;
+        right = λ i h. ap (closedOk i) (closed-kept s k i h) ∙ forAll-at (λ j. closedOk j (closedAt b w j)) (closedCount w) (s .closed) i h;
         are = closedTo-kept s k;
       }
 
@@ -193,7 +193,7 @@ module _ {n t l m u v : ℕ} {os cs : List Object} {b w : List ℕ} (o : Opens n
           linkInside = rw e y;
           gap = rw (top-is, low-is) (zeros-of t u b (omega arith) gap);
           opens = rw d (forAll-of (λ i. objectOk (closedCount w) (openAt b w i)) n (o .right));
-          closed = rw e (forAll-of (λ i. objectOk i (closedAt b w i)) m (c .right));
+          closed = rw e (forAll-of (λ i. closedOk i (closedAt b w i)) m (c .right));
         }
 
     pub sides-drawn : Drawn (record { bytes = b; words = w }) (record { limits = limitsIn w; opens = os; closed = cs })

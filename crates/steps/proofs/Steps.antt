@@ -14,7 +14,7 @@ use Rattle.answer.specs.declared.tally.Tally.{Tally}
 use Rattle.answer.specs.declared.Refusal.{Refusal}
 use Rattle.answer.specs.declared.Refusal.the-variants as Refusal
 use Rattle.answer.specs.declared.Answer.the-variants.{Done}
-use Rattle.model.specs.Object.{sizeOf, slotOk, newSlot}
+use Rattle.model.specs.Object.{sizeOf, slotOk, newSlot, hopelessObject}
 use Rattle.model.specs.Judge.{mostOpen, Limits, Verdict, accepted, refused, verdict, judgeStart, judgeOpen, judgePut, judgeLink, judgeClose, judgeDrop, judgeTally}
 use Rattle.model.specs.Told.{doneClose, refusal, refusedTold}
 use Rattle.model.specs.Session.{Session, tallyOf, started, innermost, outer, twin, leaves, step}
@@ -25,10 +25,10 @@ use Rattle.layout.specs.Decode.{decode}
 use Rattle.layout.specs.Sound.{sound}
 use Rattle.layout.specs.Known.{Sound}
 use Rattle.layout.proofs.Facts.{sound-facts}
-use Rattle.steps.specs.Steps.{Out, outcome, tallyIn, settleStep, limitsOf, startWords, startStep, openStep, putStep, madeLink, linkStep, closeStep, dropStep, tallyStep, under, closeTwin, closeNew, settleClose, twinIn}
+use Rattle.steps.specs.Steps.{Out, outcome, tallyIn, settleStep, limitsOf, startWords, startStep, openStep, putStep, innermostIn, madeLink, linkStep, closeStep, dropStep, tallyStep, under, closeTwin, closeNew, settleClose, twinIn}
 use Rattle.steps.specs.Runs.{StoreCall, start, open', put, link, close, drop, tally, Stores, Left, leftBy, leftByClose, stepOn, asCall, needsWith, Drawn}
 use Rattle.steps.proofs.Tallies.{tally-decode, count-decode, limits-decode}
-use Rattle.steps.proofs.Innermost.{twin-most, size-decode, twin-decode}
+use Rattle.steps.proofs.Innermost.{twin-most, size-decode, hopeless-decode, twin-decode}
 use Rattle.steps.proofs.Sides.{Leaves}
 use Rattle.steps.proofs.Opened.{open-leaves}
 use Rattle.steps.proofs.Grown.{put-leaves, link-leaves}
@@ -52,9 +52,9 @@ leaves-follow : {b w b' w' : List ℕ} {t : Tally} {a : Session} (i : ℕ) → L
 leaves-follow i l = record { told = ap (doneClose i) (l .counted); drawn = l .drawn; sameBytes = l .sameBytes; sameWords = l .sameWords }
 
 -- a close with nothing open
-nothing-closes : (m : Limits) (t : Tally) (size twin : ℕ) → t .depth ≡ 0 → judgeClose true m t size twin ≡ refused Refusal.NothingOpen
+nothing-closes : (m : Limits) (t : Tally) (size : ℕ) (hopeless : Bool) (twin : ℕ) → t .depth ≡ 0 → judgeClose true m t size hopeless twin ≡ refused Refusal.NothingOpen
 unfolding verdict
-nothing-closes m t size twin e = rw e
+nothing-closes m t size hopeless twin e = rw e
 
 module _ (b w : List ℕ) (h : sound b w ≡ true) where
   abbrev s : Stores
@@ -104,16 +104,23 @@ module _ (b w : List ℕ) (h : sound b w ≡ true) where
   limits : limitsIn w ≡ a .limits
   limits = limits-decode b w
 
-  judged-close : judgeClose (sound b w) (limitsIn w) (tallyIn b w) (top w - under w) (twinIn b w) ≡ judgeClose true (a .limits) (tallyOf a) (sizeOf (innermost (a .opens))) (twin a)
+  -- a close, judged by the stores and by the session
+  abbrev judgedIn : Verdict
+  judgedIn = judgeClose (sound b w) (limitsIn w) (tallyIn b w) (top w - under w) (hopelessObject (innermostIn b w)) (twinIn b w)
+
+  abbrev judgedOf : Verdict
+  judgedOf = judgeClose true (a .limits) (tallyOf a) (sizeOf (innermost (a .opens))) (hopelessObject (innermost (a .opens))) (twin a)
+
+  judged-close : judgedIn ≡ judgedOf
   judged-close = go (decLe 1 (openDepth w))
     where
-      go : Dec (1 ≤ openDepth w) → judgeClose (sound b w) (limitsIn w) (tallyIn b w) (top w - under w) (twinIn b w) ≡ judgeClose true (a .limits) (tallyOf a) (sizeOf (innermost (a .opens))) (twin a)
-      go (yes k) = λ i. judgeClose (h i) (limits i) (counts i) (size-decode b w h i) (twin-decode b w k i)
+      go : Dec (1 ≤ openDepth w) → judgedIn ≡ judgedOf
+      go (yes k) = λ i. judgeClose (h i) (limits i) (counts i) (size-decode b w h i) (hopeless-decode b w k i) (twin-decode b w k i)
       go (no k) =
           let e : tallyOf a .depth ≡ 0 = sym (ap (λ (x : Tally). x .depth) counts) ∙ omega arith in
-          (λ i. judgeClose (h i) (limits i) (counts i) (top w - under w) (twinIn b w))
-          ∙ nothing-closes (a .limits) (tallyOf a) (top w - under w) (twinIn b w) e
-          ∙ sym (nothing-closes (a .limits) (tallyOf a) (sizeOf (innermost (a .opens))) (twin a) e)
+          (λ i. judgeClose (h i) (limits i) (counts i) (top w - under w) (hopelessObject (innermostIn b w)) (twinIn b w))
+          ∙ nothing-closes (a .limits) (tallyOf a) (top w - under w) (hopelessObject (innermostIn b w)) (twinIn b w) e
+          ∙ sym (nothing-closes (a .limits) (tallyOf a) (sizeOf (innermost (a .opens))) (hopelessObject (innermost (a .opens))) (twin a) e)
 
   -- a close that tells id i, of a duplicate or of a new object
   abbrev closing : ℕ → Bool → AbstractLeft
@@ -125,7 +132,7 @@ module _ (b w : List ℕ) (h : sound b w ≡ true) where
       } in
       record { told = doneClose i (tallyOf new); after = new }
 
-  close-accepted : judgeClose (sound b w) (limitsIn w) (tallyIn b w) (top w - under w) (twinIn b w) ≡ accepted
+  close-accepted : judgedIn ≡ accepted
       → Follows s (leftByClose (pick (ltb (twinIn b w) (closedCount w)) (closeTwin b w) (closeNew b w))) (closing (twin a) (ltb (twin a) (length (a .closed))))
   close-accepted e =
       let k = some-open (eqb-false _ _ (passes _ e 1)) in
@@ -139,10 +146,10 @@ module _ (b w : List ℕ) (h : sound b w ≡ true) where
       go k false f =
           let j : closedCount w ≤ twinIn b w = ltb-false _ _ f in
           let q : closedCount w ≡ twinIn b w = omega (arith, twin-most b w) in
-          let full = passes _ e 3 in
+          let full = passes _ e 4 in
           subst (λ i. Follows s (leftByClose (closeNew b w)) (closing i false)) q
           (leaves-follow (closedCount w)
-          (seal-leaves known k (some-bytes (eqb-false _ _ (passes _ e 2))) (leb-false (objectLimit w) (closedCount w) (rw (le-leb _ _ j) at full))))
+          (seal-leaves known k (some-bytes (eqb-false _ _ (passes _ e 2))) (leb-false (objectLimit w) (closedCount w) (rw (le-leb _ _ j) at full)) (passes _ e 3)))
 
   step-follows : (work : Limits → ℕ) (c : StoreCall) → Follows s (stepOn c s) (step (needsWith work) (asCall (length (s .bytes)) (length (s .words)) c) a)
   unfolding stepOn asCall step startStep openStep putStep linkStep closeStep dropStep tallyStep

@@ -73,7 +73,7 @@ module _ {b w : List ℕ} (s : Sound b w) where
       let m = length-part (a * linkWords) (e * linkWords) (linkArea w) (omega arith) in
       omega (arith, linksOf-length (e - a) (part (a * linkWords) (e * linkWords) (linkArea w)) (omega arith))
 
-  open-size : (i : ℕ) → i < openDepth w → getD w (endsAt + i) 0 + sizeOf (openAt b w i) ≡ getD w (endsAt + i + 1) 0
+  pub open-size : (i : ℕ) → i < openDepth w → getD w (endsAt + i) 0 + sizeOf (openAt b w i) ≡ getD w (endsAt + i + 1) 0
   open-size i h =
       let t = sound-tables s .ends in
       size-part _ _ b (t .next i h) (omega (arith, t .under i h))

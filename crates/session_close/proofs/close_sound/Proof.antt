@@ -1,9 +1,10 @@
 -- Each return is one way of `closeStep`.
+use mathlib.Core.Path.{sym, _∙_}
 use native.Mathlib.Omega.{arith}
 use borrow.Author.Needs.{needs}
 use Rattle.layout.proofs.Facts.{words-read, size-known}
 use Rattle.steps.proofs.Held.{held, some-open, one-more}
-use Rattle.session_close.proofs.Closes.{Ready, close-none, close-empty, close-twin, close-full, close-new}
+use Rattle.session_close.proofs.Closes.{Filled, Ready, own-slots, own-hopeless, close-none, close-empty, close-hopeless, close-twin, close-full, close-new}
 use Rattle.session_close.proofs.close_sound.Statement.{statement}
 use Rattle.session_close.proofs.close_sound.Tie as tie
 
@@ -11,11 +12,20 @@ inner : (c : tie.Else2)
     → let o = c .before .before in
     let k = o .before .before .before .before in
     let a = k .before .before .before .before .before .before .args in
-    Ready (a .store .now) (a .records .now) (k .before .read .result) (k .tally-of .result) (o .innermost .result)
+    Filled (a .store .now) (a .records .now) (k .before .read .result) (k .tally-of .result) (o .innermost .result)
 inner c =
     let o = c .before .before in
     let k = o .before .before .before .before in
     record { held = held (k .before .read .ensures) (k .tally-of .ensures); lies = o .innermost .ensures; filled = c .if2 .left }
+
+ready : (c : tie.Else3)
+    → let o = c .before .before .before .before .before .before in
+    let k = o .before .before .before .before in
+    let a = k .before .before .before .before .before .before .args in
+    Ready (a .store .now) (a .records .now) (k .before .read .result) (k .tally-of .result) (o .innermost .result)
+ready c =
+    let f = inner (c .before .before .before .before) in
+    record { inner = f; hopes = sym (c .before .span-hopeless .ensures ∙ own-hopeless f) ∙ c .if3 .left }
 
 read-requires : tie.Need-read-requires
 read-requires c κs = search needs
@@ -44,25 +54,16 @@ same-length-4 c = search needs
 returns-2 : tie.Need-returns-2
 returns-2 c = close-empty (held (c .before .before .before .before .before .before .before .read .ensures) (c .before .before .before .before .before .before .tally-of .ensures)) (c .before .before .innermost .ensures) (c .if2 .taken)
 
-find-requires : tie.Need-find-requires
-find-requires c κs = search needs
+mul-span-hopeless : tie.Need-mul-span-hopeless
+mul-span-hopeless c = search needs
 
-cast-if3 : tie.Need-cast-if3
-cast-if3 c = search needs
+add-span-hopeless : tie.Need-add-span-hopeless
+add-span-hopeless c = search needs
 
-forget-requires : tie.Need-forget-requires
-forget-requires c κs = (c .before .before .before .before .before .before .before .before .before .before .innermost .ensures, size-known (c .before .before .before .before .before .before .before .before .before .before .before .before .before .before .before .read .ensures))
-
-sub-discard : tie.Need-sub-discard
-sub-discard c = search needs
-
-sub-discard-2 : tie.Need-sub-discard-2
-sub-discard-2 c = search needs
-
-discard-requires : tie.Need-discard-requires
-discard-requires c κs =
-    let k = inner (c .before .before .before .before .before .before .before .before .before .before .before .before .before .before .before) in
-    omega (arith, k .held, k .lies)
+span-hopeless-requires : tie.Need-span-hopeless-requires
+span-hopeless-requires c κs =
+    let f = inner (c .before .before) in
+    (omega (arith, f .held .counts .objectsIs), f .lies .words .tested .head, f .lies .within, own-slots f)
 
 same-length-5 : tie.Need-same-length-5
 same-length-5 c = search needs
@@ -72,10 +73,28 @@ same-length-6 c = search needs
 
 returns-3 : tie.Need-returns-3
 returns-3 c =
-    let f = c .before .before .before .before .before .before .before in
-    let d = f .before .before .before in
-    let i = d .before .before .before in
-    rw (c .discard .ensures, f .forget .ensures .0, f .forget .ensures .1) (close-twin (inner (i .before .before .before)) (i .find .ensures) (d .if3 .taken))
+    let k = inner (c .before .before .before .before) in
+    close-hopeless k (sym (c .before .span-hopeless .ensures ∙ own-hopeless k) ∙ c .if3 .taken)
+
+find-requires : tie.Need-find-requires
+find-requires c κs = let f = inner (c .before .before .before .before .before .before) in (f .held .counts, f .lies)
+
+cast-if4 : tie.Need-cast-if4
+cast-if4 c = search needs
+
+forget-requires : tie.Need-forget-requires
+forget-requires c κs = let f = inner (c .before .before .before .before .before .before .before .before .before .before .before .before) in (f .lies, size-known (f .held .counts))
+
+sub-discard : tie.Need-sub-discard
+sub-discard c = let f = inner (c .before .before .before .before .before .before .before .before .before .before .before .before .before .before .before .before .before .before) in omega (arith, f .lies)
+
+sub-discard-2 : tie.Need-sub-discard-2
+sub-discard-2 c = let f = inner (c .before .before .before .before .before .before .before .before .before .before .before .before .before .before .before .before .before .before .before) in omega (arith, f .lies)
+
+discard-requires : tie.Need-discard-requires
+discard-requires c κs =
+    let f = inner (c .before .before .before .before .before .before .before .before .before .before .before .before .before .before .before .before .before .before .before) in
+    omega (arith, f .held, f .lies)
 
 same-length-7 : tie.Need-same-length-7
 same-length-7 c = search needs
@@ -85,19 +104,10 @@ same-length-8 c = search needs
 
 returns-4 : tie.Need-returns-4
 returns-4 c =
-    let d = c .before .before in
+    let f = c .before .before .before .before .before .before .before in
+    let d = f .before .before .before in
     let i = d .before .before .before in
-    close-full (inner (i .before .before .before)) (i .find .ensures) (d .if3 .left) (c .if4 .taken)
-
-seal-requires : tie.Need-seal-requires
-seal-requires c κs =
-    let k = inner (c .before .before .before .before .before .before .before .before .before .before) in
-    (k .held .counts, k .lies, c .before .before .if4 .left)
-
-add-requires : tie.Need-add-requires
-add-requires c κs =
-    let k = inner (c .before .before .before .before .before .before .before .before .before .before .before .before .before .before .before) in
-    one-more (k .held) (c .before .before .before .before .before .before .before .if4 .left) (k .lies .some)
+    rw (c .discard .ensures, f .forget .ensures .0, f .forget .ensures .1) (close-twin (ready (i .before .before .before)) (i .find .ensures) (d .if4 .taken))
 
 same-length-9 : tie.Need-same-length-9
 same-length-9 c = search needs
@@ -107,11 +117,33 @@ same-length-10 c = search needs
 
 returns-5 : tie.Need-returns-5
 returns-5 c =
+    let d = c .before .before in
+    let i = d .before .before .before in
+    close-full (ready (i .before .before .before)) (i .find .ensures) (d .if4 .left) (c .if5 .taken)
+
+seal-requires : tie.Need-seal-requires
+seal-requires c κs =
+    let f = inner (c .before .before .before .before .before .before .before .before .before .before .before .before .before .before) in
+    (f .held .counts, f .lies, c .before .before .if5 .left)
+
+add-requires : tie.Need-add-requires
+add-requires c κs =
+    let f = inner (c .before .before .before .before .before .before .before .before .before .before .before .before .before .before .before .before .before .before .before) in
+    one-more (f .held) (c .before .before .before .before .before .before .before .if5 .left) (f .lies .some)
+
+same-length-11 : tie.Need-same-length-11
+same-length-11 c = search needs
+
+same-length-12 : tie.Need-same-length-12
+same-length-12 c = search needs
+
+returns-6 : tie.Need-returns-6
+returns-6 c =
     let w = c .before .before .before .before .before in
     let n = w .before .before .before in
     let d = n .before .before in
     let i = d .before .before .before in
-    rw (c .add .ensures, w .seal .ensures .0, w .seal .ensures .1) (close-new (inner (i .before .before .before)) (i .find .ensures) (d .if3 .left) (n .if4 .left))
+    rw (c .add .ensures, w .seal .ensures .0, w .seal .ensures .1) (close-new (ready (i .before .before .before)) (i .find .ensures) (d .if4 .left) (n .if5 .left))
 
 pub close-sound-spec : {M : Type 1} → statement M
 close-sound-spec =
@@ -126,20 +158,26 @@ close-sound-spec =
     same-length-3
     same-length-4
     returns-2
+    mul-span-hopeless
+    add-span-hopeless
+    span-hopeless-requires
+    same-length-5
+    same-length-6
+    returns-3
     find-requires
-    cast-if3
+    cast-if4
     forget-requires
     sub-discard
     sub-discard-2
     discard-requires
-    same-length-5
-    same-length-6
-    returns-3
     same-length-7
     same-length-8
     returns-4
-    seal-requires
-    add-requires
     same-length-9
     same-length-10
-    returns-5)
+    returns-5
+    seal-requires
+    add-requires
+    same-length-11
+    same-length-12
+    returns-6)

@@ -6,7 +6,7 @@ use Prim.Native.Nat.{_≤_, _-_}
 use native.Mathlib.Omega.{arith}
 use Rattle.layout.specs.Tables.{forAll}
 use Rattle.layout.specs.Words.{closedCount}
-use Rattle.layout.specs.Fields.{objectOk}
+use Rattle.layout.specs.Fields.{closedOk}
 use Rattle.layout.specs.Decode.{closedAt}
 use Rattle.layout.proofs.Facts.{own-head, tested}
 use Rattle.sound_fields.proofs.ForAll.{forAll-next, forAll-none}
@@ -15,17 +15,17 @@ use Rattle.sound_fields.proofs.closed_ok.Tie as tie
 
 abbrev Inv-loop : tie.InvT-loop
 Inv-loop store records p base i₀ i =
-    let right = forAll (λ k. objectOk k (closedAt store records k)) in
+    let right = forAll (λ k. closedOk k (closedAt store records k)) in
     (i ≤ closedCount records) × (right (closedCount records) ≡ right i)
 
 abbrev μ-loop : tie.MeasureT-loop
 μ-loop store records p base i₀ i = i
 
-looked : (c : tie.After-span-ok Inv-loop μ-loop)
+looked : (c : tie.After-closed-span-ok Inv-loop μ-loop)
     → let l = c .before .before .before in
     let a = l .before .before .before .before .args in
-    objectOk (l .loop .i - 1) (closedAt (a .store .now) (a .records .now) (l .loop .i - 1)) ≡ c .span-ok .result
-looked c = sym (rw (c .before .closed-span .ensures .is) at (c .span-ok .ensures))
+    closedOk (l .loop .i - 1) (closedAt (a .store .now) (a .records .now) (l .loop .i - 1)) ≡ c .closed-span-ok .result
+looked c = sym (rw (c .before .closed-span .ensures .is) at (c .closed-span-ok .ensures))
 
 read-counts-requires : tie.Need-read-counts-requires Inv-loop μ-loop
 read-counts-requires c κs = own-head (c .before .before .pre .0)
@@ -48,8 +48,8 @@ closed-span-requires c κs =
     let pre = k .before .before .before .pre in
     (tested (pre .0) (pre .1), k .read-counts .ensures .objectsIs, omega arith)
 
-span-ok-requires : tie.Need-span-ok-requires Inv-loop μ-loop
-span-ok-requires c κs = (omega arith, c .before .before .before .before .before .before .pre .0, c .closed-span .ensures .within)
+closed-span-ok-requires : tie.Need-closed-span-ok-requires Inv-loop μ-loop
+closed-span-ok-requires c κs = (omega arith, c .before .before .before .before .before .before .pre .0, c .closed-span .ensures .within)
 
 returns : tie.Need-returns Inv-loop μ-loop
 returns c =
@@ -79,7 +79,7 @@ closed-ok-spec =
     loop-holds
     sub-i
     closed-span-requires
-    span-ok-requires
+    closed-span-ok-requires
     returns
     loop-less
     loop-again

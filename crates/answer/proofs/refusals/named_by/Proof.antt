@@ -14,7 +14,7 @@ use Rattle.answer.proofs.refusals.named_by.Tie as tie
 
 -- the places of the others among the variants
 abbrev others : List ℕ
-others = 0 ∷ 1 ∷ 2 ∷ 3 ∷ 4 ∷ 5 ∷ 6 ∷ 7 ∷ 8 ∷ 9 ∷ 11 ∷ 12 ∷ []
+others = 0 ∷ 1 ∷ 2 ∷ 3 ∷ 4 ∷ 5 ∷ 6 ∷ 7 ∷ 8 ∷ 9 ∷ 11 ∷ 12 ∷ 13 ∷ []
 
 unnamed : (why : Refusal) → OneOf others (tagOf the-type why) → noOverflow ≡ named why
 unnamed Refusal.NothingOpen h = refl
@@ -30,6 +30,7 @@ unnamed Refusal.OutputShort h = refl
 unnamed (Refusal.Overflow o) h = absurd (miss others 10 tt h)
 unnamed Refusal.Unsound h = refl
 unnamed Refusal.OutOfRange h = refl
+unnamed Refusal.Hopeless h = refl
 
 enum-known-why : tie.Need-enum-known-why
 enum-known-why c = search needs
