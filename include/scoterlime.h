@@ -40,8 +40,9 @@ extern "C" {
  *   11  in neither order every offset fits its field
  *   12  the stores do not hold a sound session
  *   13  a limit or a lent area is outside its range
+ *   16  a field of the open object can be filled in no order: from its inner start on the object has more bytes than its width can count
  *
- * Beside 0 to 11 stand the counts after the call: bytes and links held by open and closed objects, and how many objects are closed (objects) and open (depth).
+ * Beside 0 to 11 and 16 stand the counts after the call: bytes and links held by open and closed objects, and how many objects are closed (objects) and open (depth).
  * Beside 12 and 13 they are 0. Each other value is 0 but where a call below names it. */
 typedef struct {
     uint64_t number;
@@ -81,7 +82,7 @@ scoterlime_answer scoterlime_link(uint8_t *store, size_t n, uint32_t *records, s
 
 /* Closes the innermost open object and tells its id: that of the closed object with the same bytes and links if there is one, else the next,
  * counted from 0.
- * Refused: 12, 1, 5, 8. */
+ * Refused: 12, 1, 5, 16, 8. A refused object stays open. */
 scoterlime_answer scoterlime_close(uint8_t *store, size_t n, uint32_t *records, size_t r);
 
 /* Forgets the innermost open object.
