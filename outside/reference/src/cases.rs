@@ -1,4 +1,4 @@
-//! The twenty-one hand-counted cases as lists of calls.
+//! The twenty-four hand-counted cases as lists of calls.
 
 use crate::call::Call;
 use crate::limits;
@@ -181,8 +181,24 @@ pub fn hand_counted_cases() -> Vec<Case> {
             .close()
             .pack(1, 9),
         case_20(),
-        case_21("21 inner start 4469", 4_469),
-        case_21("21 inner start 4468", 4_468),
+        case_21("21 inner start 4469", 4_469).pack(1, 70_005),
+        case_21("21 inner start 4468", 4_468).tally(),
+        case_22("22 size 65535").close().pack(1, 65_536),
+        case_22("22 size 65536")
+            .put(b"r")
+            .close()
+            .tally()
+            .drop_piece()
+            .tally(),
+        case_22("22 size 65536 and more")
+            .put(b"r")
+            .close()
+            .put(b"r")
+            .close()
+            .tally(),
+        case_23("23 size 65545").close().pack(1, 65_546),
+        case_23("23 size 65546").put(b"r").close().tally(),
+        case_24(),
     ]
 }
 
@@ -273,5 +289,42 @@ fn case_21(name: &'static str, inner: u32) -> Case {
     Case::new(name, 2, 1, 70_005)
         .piece(b"x", &[])
         .piece_from(&[b'r'; 70_002], inner)
-        .pack(1, 70_005)
+}
+
+/// A field and as many bytes as it can reach over.
+fn case_22(name: &'static str) -> Case {
+    Case::new(name, 2, 1, 70_000)
+        .piece(b"x", &[])
+        .open()
+        .link(2, 0)
+        .fill(b'r', 65_533)
+}
+
+/// The same with the field, and its inner start, behind 10 bytes.
+fn case_23(name: &'static str) -> Case {
+    Case::new(name, 2, 1, 70_000)
+        .piece(b"x", &[])
+        .open()
+        .fill(b'h', 10)
+        .link_from(2, 0, 10)
+        .fill(b'r', 65_533)
+}
+
+/// Closes when the object limit is reached: of nothing, of a hopeless piece and
+/// of one that is not.
+fn case_24() -> Case {
+    Case::new("24", 1, 1, 70_000)
+        .piece(b"x", &[])
+        .open()
+        .close()
+        .link(2, 0)
+        .fill(b'r', 65_534)
+        .close()
+        .tally()
+        .drop_piece()
+        .open()
+        .link(2, 0)
+        .fill(b'r', 65_533)
+        .close()
+        .tally()
 }

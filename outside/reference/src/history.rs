@@ -107,12 +107,21 @@ impl History {
         self.open.last().map(Draft::size)
     }
 
+    /// How far the end of the innermost open piece is from the first inner start
+    /// of its fields of width 2.
+    pub fn narrow_reach(&self) -> Option<usize> {
+        self.open.last().and_then(Draft::narrow_reach)
+    }
+
     pub fn close(&mut self) -> Answer {
         let Some(piece) = self.open.last() else {
             return self.tell(1);
         };
         if piece.size() == 0 {
             return self.tell(5);
+        }
+        if piece.hopeless() {
+            return self.tell(16);
         }
         let reading = piece.finish();
         let equal = self.closed.iter().position(|kept| same(kept, &reading));

@@ -16,6 +16,7 @@ pub mod cases;
 pub mod graph;
 pub mod graphs;
 pub mod history;
+mod hopeless_traps;
 mod inner_traps;
 pub mod limits;
 pub mod lines;

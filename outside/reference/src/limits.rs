@@ -17,6 +17,11 @@ pub fn store_in_range(length: usize) -> bool {
     (1..=LONGEST_STORE).contains(&(length as u64))
 }
 
+/// The least offset that a field of this width cannot hold.
+pub fn capacity(width: u32) -> u64 {
+    1 << (8 * width)
+}
+
 /// Words of the record store for the limits.
 pub fn record_need(pieces: u64, links: u64) -> u64 {
     135 + 2 * pieces + 4 * links

@@ -55,6 +55,25 @@ impl Draft {
         self.fields.len()
     }
 
+    /// Whether a field's child, which lies past the end, is too far from the
+    /// field's inner start for its width.
+    pub fn hopeless(&self) -> bool {
+        self.fields.iter().any(|field| {
+            let holds = match field.width {
+                2 => 65_535,
+                3 => 16_777_215,
+                _ => 4_294_967_295,
+            };
+            self.size() - field.inner > holds
+        })
+    }
+
+    /// From the first inner start of the fields of width 2 to the end.
+    pub fn narrow_reach(&self) -> Option<usize> {
+        let narrow = self.fields.iter().filter(|field| field.width == 2);
+        narrow.map(|field| self.size() - field.inner).max()
+    }
+
     pub fn finish(&self) -> Rc<Reading> {
         let mut hasher = DefaultHasher::new();
         self.bytes.hash(&mut hasher);

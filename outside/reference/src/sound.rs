@@ -5,6 +5,14 @@ use crate::view::{Piece, View};
 
 /// The session in the two stores, if it is sound.
 pub fn sound<'a>(store: &'a [u8], words: &'a [u32]) -> Option<View<'a>> {
+    sound_but_hopeless(store, words).filter(|view| {
+        let mut closed = (0..view.closed()).map(|id| view.closed_piece(id));
+        !closed.any(|piece| view.hopeless(&piece))
+    })
+}
+
+/// The same, though closed pieces may be hopeless.
+pub fn sound_but_hopeless<'a>(store: &'a [u8], words: &'a [u32]) -> Option<View<'a>> {
     let view = View::framed(store, words)?;
     // Each check may index by what the checks before it have settled.
     let agrees = counts_within_limits(&view)

@@ -2,6 +2,7 @@
 
 use crate::call::Call;
 use crate::cases::Case;
+use crate::hopeless_traps::hopeless_cases;
 use crate::inner_traps::inner_start_cases;
 use crate::limits;
 
@@ -12,25 +13,31 @@ pub fn trap_cases() -> Vec<Case> {
     cases.extend(start_cases());
     cases.extend(refusal_cases());
     cases.extend(inner_start_cases());
+    cases.extend(hopeless_cases());
     cases
 }
 
 fn offset_cases() -> Vec<Case> {
-    let root = |name, bytes, width| {
-        Case::new(name, 2, 1, 70_000)
-            .piece(b"x", &[])
-            .open()
-            .fill(b'r', bytes)
-            .link(width, 0)
-            .close()
-            .pack(1, 70_000)
+    let root = |name, middle, width| {
+        over_middle(Case::new(name, 3, 3, 70_000), middle, width).pack(2, 70_000)
     };
     vec![
-        root("offset 65535 width 2", 65_533, 2),
-        root("offset 65536 width 2", 65_534, 2),
-        root("offset 65536 width 3", 65_533, 3),
-        root("offset 65536 width 4", 65_532, 4),
+        root("offset 65535 width 2", 65_531, 2),
+        root("offset 65536 width 2", 65_532, 2),
+        root("offset 65536 width 3", 65_531, 3),
+        root("offset 65536 width 4", 65_530, 4),
     ]
+}
+
+/// x, a piece of this size that links it, and a root that links that piece and,
+/// by this width, x: in any order the piece lies between.
+fn over_middle(case: Case, middle: usize, width: u32) -> Case {
+    case.piece(b"x", &[])
+        .open()
+        .link(2, 0)
+        .fill(b'm', middle - 2)
+        .close()
+        .piece(&[], &[(2, 1), (width, 0)])
 }
 
 fn order_cases() -> Vec<Case> {
@@ -284,22 +291,17 @@ fn refusal_cases() -> Vec<Case> {
 }
 
 fn pack_refusals() -> Case {
-    let need = limits::work_need(3, 1) as usize;
+    let need = limits::work_need(4, 3) as usize;
     let pack = |id, output, work| Call::Pack { id, output, work };
-    Case::new("pack refusals in order", 3, 1, 70_000)
-        .piece(b"x", &[])
-        .open()
-        .fill(b'r', 65_534)
-        .link(2, 0)
-        .close()
+    over_middle(Case::new("pack refusals in order", 4, 3, 70_000), 65_532, 2)
         .open()
         .call(pack(9, 0, need - 1))
         .call(pack(9, 0, need))
         .drop_piece()
         .call(pack(9, 0, 0))
-        .call(pack(2, 0, need))
-        .call(pack(1, 65_536, need))
-        .call(pack(1, 65_537, need))
-        .call(pack(1, 65_540, need + 3))
+        .call(pack(3, 0, need))
+        .call(pack(2, 65_536, need))
+        .call(pack(2, 65_537, need))
+        .call(pack(2, 65_540, need + 3))
         .call(pack(0, 1, need + 3))
 }

@@ -170,6 +170,17 @@ impl<'a> View<'a> {
                 .all(|(a, b)| self.field(a) == self.field(b))
     }
 
+    /// Whether a piece, whose fields are right, has one that can be filled in no
+    /// order: its child lies past the piece's end, which is too far already.
+    pub fn hopeless(&self, piece: &Piece) -> bool {
+        let size = piece.bytes.len() as u64;
+        piece
+            .links
+            .clone()
+            .map(|record| self.field(record))
+            .any(|field| size - u64::from(field.inner) >= limits::capacity(field.width))
+    }
+
     /// The tally of a sound session.
     pub fn tally(&self) -> Answer {
         let between = self.between();

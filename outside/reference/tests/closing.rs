@@ -58,6 +58,62 @@ fn the_second_of_two_inner_starts_is_compared() {
     assert_eq!([2, 1, 0, 1].map(&mut two), [1, 2, 3, 2]);
 }
 
+/// Each field of width 2 of a piece of four, with inner starts by which it
+/// alone decides.
+#[test]
+fn every_field_can_make_a_piece_hopeless() {
+    for (size, decisive) in [65_600, 70_000, 140_000]
+        .iter()
+        .flat_map(|s| [(*s, 0), (*s, 1), (*s, 2), (*s, 3)])
+    {
+        for (less, number) in [(0, 0), (1, 16)] {
+            let mut session = Session::new(2, 4, 150_000);
+            session.piece(b"x", &[]);
+            session.open();
+            session.put(&vec![1; size - 65_535]);
+            for field in 0..4 {
+                // The least inner start with which it closes.
+                let just = size as u32 - 65_535;
+                let inner = if field == decisive { just - less } else { just };
+                assert_eq!(session.link_from(2, 0, inner).number, 0);
+            }
+            session.put(&vec![1; 65_535 - 8]);
+            let closed = session.close();
+            assert_eq!((closed.number, closed.depth), (number, u64::from(less)));
+        }
+    }
+}
+
+#[test]
+fn a_hopeless_piece_is_not_moved() {
+    let mut session = Session::new(3, 2, 65_600);
+    session.piece(b"x", &[]);
+    session.open();
+    session.put(b"o");
+    session.open();
+    session.link(2, 0);
+    session.put(&[1; 65_534]);
+    let before = session.stores.clone();
+    assert_eq!(session.close(), told(16, [65_538, 1, 1, 2]));
+    assert_eq!(session.close(), told(16, [65_538, 1, 1, 2]));
+    assert_eq!(session.stores, before);
+    assert_eq!(session.drop_piece(), told(0, [2, 0, 1, 1]));
+    assert_eq!(session.link(2, 0), told(0, [4, 1, 1, 1]));
+    assert_eq!(session.close().id, 1);
+}
+
+#[test]
+fn wider_fields_always_close() {
+    for width in [3, 4] {
+        let mut session = Session::new(2, 1, 16_777_216);
+        session.piece(b"x", &[]);
+        session.open();
+        session.link(width, 0);
+        session.put(&vec![1; 16_777_215 - width as usize]);
+        assert_eq!(session.close().id, 1);
+    }
+}
+
 #[test]
 fn a_prefix_is_no_duplicate() {
     let mut session = Session::new(4, 0, 16);

@@ -1,4 +1,4 @@
-//! The twenty-one cases counted by hand.
+//! The twenty-four cases counted by hand.
 
 mod common;
 
@@ -246,17 +246,76 @@ fn case_21() {
     let root = |inner| {
         let mut session = Session::new(2, 1, 70_005);
         session.piece(&[0x78], &[]);
-        session.piece_from(&[0x72; 70_002], inner);
-        session.pack(1, 70_005)
+        session.open();
+        session.put(&[0x72; 70_002]);
+        session.link_from(2, 0, inner);
+        (session.close(), session)
     };
-    let packed = root(4_469);
+    let (closed, mut session) = root(4_469);
+    assert_eq!((closed.number, closed.id), (0, 1));
+    let packed = session.pack(1, 70_005);
     assert_eq!(packed.answer.length, 70_005);
     assert_eq!(packed.output[70_001..], [0x72, 0xff, 0xff, 0x78]);
-    let expected = Answer {
-        parent: 1,
-        field: 70_002,
-        needed: 65_536,
-        ..told(11, [70_005, 1, 2, 0])
-    };
-    assert_eq!(root(4_468).answer, expected);
+    let (closed, mut session) = root(4_468);
+    assert_eq!(closed, told(16, [70_005, 1, 1, 1]));
+    assert_eq!(session.pack(1, 70_005).answer.number, 9);
+}
+
+/// A leaf, and an open piece of a header, a width-2 field that counts from
+/// behind it, and bytes up to this size.
+fn up_to(size: usize, header: usize, pieces: u32) -> Session {
+    let mut session = Session::new(pieces, 1, 70_000);
+    session.piece(&[0x78], &[]);
+    session.open();
+    session.put(&vec![0x68; header]);
+    session.link_from(2, 0, header as u32);
+    session.put(&vec![0x72; size - header - 2]);
+    session
+}
+
+#[test]
+fn case_22() {
+    let mut session = up_to(65_535, 0, 2);
+    let closed = session.close();
+    assert_eq!((closed.number, closed.id, closed.depth), (0, 1, 0));
+    let packed = session.pack(1, 65_536);
+    assert_eq!(packed.answer.length, 65_536);
+    assert_eq!(packed.output[..3], [0xff, 0xff, 0x72]);
+    assert_eq!(packed.output[65_534..], [0x72, 0x78]);
+
+    for dropped in [true, false] {
+        let mut session = up_to(65_535, 0, 2);
+        assert_eq!(session.put(&[0x72]), told(0, [65_537, 1, 1, 1]));
+        let before = session.stores.clone();
+        assert_eq!(session.close(), told(16, [65_537, 1, 1, 1]));
+        assert_eq!(session.stores, before);
+        if dropped {
+            assert_eq!(session.drop_piece(), told(0, [1, 0, 1, 0]));
+        } else {
+            assert_eq!(session.put(&[0x72]), told(0, [65_538, 1, 1, 1]));
+            assert_eq!(session.close(), told(16, [65_538, 1, 1, 1]));
+        }
+    }
+}
+
+#[test]
+fn case_23() {
+    let mut session = up_to(65_545, 10, 2);
+    assert_eq!(session.close().id, 1);
+    let packed = session.pack(1, 65_546);
+    assert_eq!(packed.output[9..13], [0x68, 0xff, 0xff, 0x72]);
+    let mut session = up_to(65_546, 10, 2);
+    assert_eq!(session.close(), told(16, [65_547, 1, 1, 1]));
+}
+
+#[test]
+fn case_24() {
+    let mut session = Session::new(1, 0, 8);
+    session.piece(&[0x78], &[]);
+    session.open();
+    assert_eq!(session.close(), told(5, [1, 0, 1, 1]));
+    let mut session = up_to(65_536, 0, 1);
+    assert_eq!(session.close(), told(16, [65_537, 1, 1, 1]));
+    let mut session = up_to(65_535, 0, 1);
+    assert_eq!(session.close(), told(8, [65_536, 1, 1, 1]));
 }

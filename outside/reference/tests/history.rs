@@ -92,6 +92,26 @@ fn inner_starts_tell_pieces_apart() {
 }
 
 #[test]
+fn a_hopeless_piece_stays_open() {
+    let mut history = begin(1, 9, 80_000);
+    piece(&mut history, b"x", &[]);
+    for (width, inner) in [(2, 0), (2, 1), (2, 9), (3, 0), (4, 0)] {
+        history.open();
+        history.put(&[1; 9]);
+        assert_eq!(history.link(width, 0, inner).number, 0);
+        let before = 9 + width as usize;
+        history.put(&vec![1; inner as usize + 65_535 - before]);
+        // The object limit is reached.
+        assert_eq!(history.close().number, 8);
+        history.put(&[1]);
+        let size = u64::from(inner) + 65_536;
+        let number = if width == 2 { 16 } else { 8 };
+        assert_eq!(history.close(), told(number, [1 + size, 1, 1, 1]));
+        assert_eq!(history.drop_piece(), told(0, [1, 0, 1, 0]));
+    }
+}
+
+#[test]
 fn a_start_empties_it() {
     let mut history = begin(2, 1, 4);
     piece(&mut history, b"a", &[]);

@@ -10,7 +10,7 @@ use reference::limits;
 use reference::traps::trap_cases;
 
 fn two_pieces(bytes: usize) -> Session {
-    let mut session = Session::new(3, 2, 70_000);
+    let mut session = Session::new(3, 3, 70_000);
     session.piece(b"x", &[]);
     session.piece(&vec![1; bytes], &[(2, 0)]);
     session
@@ -36,12 +36,13 @@ fn the_surplus_and_the_rest_of_the_output_stand() {
 
 #[test]
 fn ten_and_eleven_clear_the_work_memory_and_write_no_table() {
-    let mut session = two_pieces(65_534);
+    let mut session = two_pieces(65_530);
+    session.piece(&[], &[(2, 1), (2, 0)]);
     let before = session.stores.clone();
     for (output, number) in [(65_536, 10), (65_537, 11)] {
         let need = session.work;
         let told = session.stores.run(&Call::Pack {
-            id: 1,
+            id: 2,
             output,
             work: need + 2,
         });
@@ -131,19 +132,25 @@ fn offsets_count_from_the_inner_start() {
 
 #[test]
 fn offsets_at_the_edge_of_a_width_2_field_from_an_inner_start() {
+    // The root links a piece of 9 bytes that links x, and from its last field x.
     let root = |bytes: usize, inner| {
-        let mut session = Session::new(2, 1, 200_000);
+        let mut session = Session::new(3, 3, 200_000);
         session.piece(b"x", &[]);
-        session.piece_from(&vec![1; bytes], inner);
-        session.pack(1, 200_000).answer
+        session.piece(b"mmmmmmm", &[(2, 0)]);
+        session.open();
+        session.link(4, 1);
+        session.put(&vec![1; bytes]);
+        session.link_from(2, 0, inner);
+        assert_eq!(session.close().id, 2);
+        session.pack(2, 200_000).answer
     };
-    for bytes in [65_534, 70_002, 150_000] {
-        let just = bytes as u32 - 65_533;
-        assert_eq!(root(bytes, just).length, bytes as u64 + 3);
+    for bytes in [65_530, 70_002, 150_000] {
+        let just = bytes as u32 + 15 - 65_535;
+        assert_eq!(root(bytes, just).length, bytes as u64 + 16);
         let unfit = root(bytes, just - 1);
         assert_eq!(
             (unfit.number, unfit.parent, unfit.field, unfit.needed),
-            (11, 1, bytes as u64, 65_536)
+            (11, 2, bytes as u64 + 4, 65_536)
         );
     }
 }

@@ -162,15 +162,19 @@ fn put_tells_1_before_6() {
 }
 
 #[test]
-fn close_tells_1_5_8_in_this_order() {
-    let mut session = Session::new(1, 0, 4);
+fn close_tells_1_5_16_8_in_this_order() {
+    let mut session = Session::new(1, 1, 70_000);
     session.piece(b"a", &[]);
     assert_eq!(session.close().number, 1);
     session.open();
     assert_eq!(session.close(), told(5, [1, 0, 1, 1]));
-    session.put(b"b");
+    session.link(2, 0);
     let before = session.stores.clone();
-    assert_eq!(session.close(), told(8, [2, 0, 1, 1]));
+    assert_eq!(session.close(), told(8, [3, 1, 1, 1]));
+    assert_eq!(session.stores, before);
+    session.put(&[1; 65_534]);
+    let before = session.stores.clone();
+    assert_eq!(session.close(), told(16, [65_537, 1, 1, 1]));
     assert_eq!(session.stores, before);
 }
 
@@ -189,23 +193,21 @@ fn a_duplicate_is_never_told_8() {
 
 #[test]
 fn pack_tells_13_9_4_10_11_in_this_order() {
-    let mut session = Session::new(3, 1, 70_000);
+    let mut session = Session::new(4, 3, 70_000);
     session.piece(b"x", &[]);
-    session.piece(&vec![1; 65_534], &[(2, 0)]);
-    let need = 9 * 3 + 4;
+    session.piece(&vec![1; 65_530], &[(2, 0)]);
+    session.piece(&[], &[(2, 1), (2, 0)]);
+    let need = 9 * 4 + 4 * 3;
     let pack = |id, output, work| Call::Pack { id, output, work };
     session.open();
     assert_eq!(session.run(pack(9, 0, need - 1)), told(13, [0; 4]));
-    assert_eq!(session.run(pack(9, 0, need)), told(9, [65_537, 1, 2, 1]));
+    assert_eq!(session.run(pack(9, 0, need)), told(9, [65_537, 3, 3, 1]));
     session.drop_piece();
     assert_eq!(session.run(pack(9, 0, 0)), told(13, [0; 4]));
-    assert_eq!(session.run(pack(2, 0, need)), told(4, [65_537, 1, 2, 0]));
-    let short = session.run(pack(1, 65_536, need));
-    assert_eq!(short, told(10, [65_537, 1, 2, 0]));
-    let unfit = session.run(pack(1, 65_537, need));
+    assert_eq!(session.run(pack(3, 0, need)), told(4, [65_537, 3, 3, 0]));
+    let short = session.run(pack(2, 65_536, need));
+    assert_eq!(short, told(10, [65_537, 3, 3, 0]));
+    let unfit = session.run(pack(2, 65_537, need));
     assert_eq!((unfit.number, unfit.bytes, unfit.length), (11, 65_537, 0));
-    assert_eq!(
-        (unfit.parent, unfit.field, unfit.needed),
-        (1, 65_534, 65_536)
-    );
+    assert_eq!((unfit.parent, unfit.field, unfit.needed), (2, 2, 65_536));
 }

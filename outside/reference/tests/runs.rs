@@ -4,7 +4,7 @@
 mod common;
 
 use common::Numbers;
-use reference::answer::Answer;
+use reference::answer::{Answer, NUMBERS};
 use reference::call::{Call, Stores, STALE_BYTE, STALE_WORK};
 use reference::cases::{hand_counted_cases, Case};
 use reference::history::History;
@@ -19,7 +19,7 @@ struct Pair {
     stores: Stores,
     history: History,
     /// How often each number was told.
-    told: [usize; 14],
+    told: [usize; NUMBERS],
     /// How many tables with more than their root were packed.
     linked: usize,
     /// Of inner starts: accepted links with one above 0, links refused for it
@@ -37,7 +37,7 @@ impl Pair {
         Pair {
             stores,
             history: History::begin(pieces, links, store, records).unwrap(),
-            told: [0; 14],
+            told: [0; NUMBERS],
             linked: 0,
             inner: [0; 3],
         }
@@ -184,7 +184,7 @@ fn any_call(numbers: &mut Numbers, history: &History, most: usize) -> Call {
 
 #[test]
 fn many_small_runs() {
-    let mut told = [0; 14];
+    let mut told = [0; NUMBERS];
     let (mut linked, mut inner) = (0, [0; 3]);
     for seed in 0..4_000 {
         let mut numbers = Numbers::new(seed + 10);
@@ -215,7 +215,7 @@ fn many_small_runs() {
 
 #[test]
 fn runs_with_large_pieces() {
-    let (mut told, mut inner) = ([0; 14], 0);
+    let (mut told, mut inner) = ([0; NUMBERS], 0);
     for seed in 0..60 {
         let mut numbers = Numbers::new(seed + 10_000);
         let (pieces, links) = (10, 24);
@@ -223,7 +223,7 @@ fn runs_with_large_pieces() {
         let mut pair = Pair::begin(400_000, records, &Call::Start { pieces, links });
         for id in 0..9 {
             pair.run(&Call::Open);
-            let length = numbers.one_of(&[1, 2, 20_000, 40_000, 65_525, 65_535]);
+            let length = numbers.one_of(&[1, 2, 20_000, 40_000, 65_525, 65_533, 65_535]);
             let bytes = vec![id as u8; length];
             let put_first = numbers.below(2) == 0;
             if put_first {
@@ -243,6 +243,13 @@ fn runs_with_large_pieces() {
                 pair.run(&Call::Put(bytes));
             }
             pair.run(&Call::Close);
+            // A hopeless piece stays open; another stands for it.
+            if pair.history.tally().depth > 0 {
+                pair.run(&Call::Drop);
+                pair.run(&Call::Open);
+                pair.run(&Call::Put(vec![id as u8; 3]));
+                pair.run(&Call::Close);
+            }
         }
         for id in 0..9 {
             pair.run(&Call::Pack {
@@ -256,7 +263,7 @@ fn runs_with_large_pieces() {
         }
         inner += pair.inner[2];
     }
-    assert!(told[11] > 20, "{told:?}");
+    assert!(told[11] > 20 && told[16] > 20, "{told:?}");
     assert!(inner > 100, "{inner} tables with inner starts");
 }
 

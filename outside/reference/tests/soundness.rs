@@ -5,6 +5,7 @@ mod common;
 use common::{told, Numbers, Session};
 use reference::answer::Answer;
 use reference::call::{Call, Stores};
+use reference::sound::{sound, sound_but_hopeless};
 
 /// Piece limit 4, link limit 4, 24 bytes. Closed: `x`, and `b` with a link to
 /// it. Open: `q` with a link to id 1, and `r`. Both inner starts are at the
@@ -325,7 +326,13 @@ fn slow_sound(store: &[u8], words: &[u32]) -> bool {
                 let (place, width, child) = (word(at)?, word(at + 1)?, word(at + 3)?);
                 let from_inside = word(at + 2)? <= place;
                 let in_order = place >= end && [2, 3, 4].contains(&width);
-                let right = in_order && from_inside && child < bound;
+                let holds = match width {
+                    2 => 65_535,
+                    3 => 16_777_215,
+                    _ => 4_294_967_295,
+                };
+                let hopeful = least == 0 || size - word(at + 2)? <= holds;
+                let right = in_order && from_inside && hopeful && child < bound;
                 end = place + width;
                 if !right || end > size || !zero(begin + place..begin + end) {
                     return Some(false);
@@ -385,6 +392,119 @@ fn tampered_memory_is_judged_alike_and_never_indexed_out_of_range() {
     }
     assert!(counts[0] > 5_000 && counts[1] > 5_000, "{counts:?}");
     assert!(by_inner > 200, "{by_inner} unsound by inner starts alone");
+}
+
+/// Closed: `x`; a piece of 65,535 bytes with a width-2 field at its front; one
+/// of 65,600 with a width-3 field, and behind 80 bytes one of width 2 with inner
+/// start 65. Open: one of 65,536 with a width-2 field at its front. Its link
+/// record is the first, the third piece's are the third and fourth.
+fn session_at_the_edge() -> Session {
+    let mut session = Session::new(4, 5, 196_700);
+    session.piece(b"x", &[]);
+    session.open();
+    session.link(2, 0);
+    session.put(&[0; 65_533]);
+    assert_eq!(session.close().id, 1);
+    session.open();
+    session.link(3, 0);
+    session.put(&[0; 77]);
+    session.link_from(2, 1, 65);
+    session.put(&[0; 65_518]);
+    assert_eq!(session.close().id, 2);
+    session.open();
+    session.link(2, 1);
+    session.put(&[0; 65_534]);
+    assert_eq!(session.close().number, 16);
+    session
+}
+
+/// The first word of a link record of that session.
+fn record(number: usize) -> usize {
+    135 + 2 * 4 + 4 * number
+}
+
+#[test]
+fn closed_pieces_that_no_order_can_pack() {
+    let sound = session_at_the_edge().stores;
+    let tally = told(0, [196_672, 4, 3, 1]);
+    assert_eq!(sound.clone().run(&Call::Tally).answer, tally);
+    let [first, second] = [record(2), record(3)];
+    assert_eq!(sound.records[first..first + 8], [0, 3, 0, 0, 80, 2, 65, 1]);
+    let begin = sound.records[136];
+    for (word, value, why) in [
+        (second + 2, 64, "an inner start one less"),
+        (second + 2, 0, "an inner start of 0"),
+        (first + 1, 2, "a width of 2 for one of 3"),
+        (136, begin - 1, "a size one more"),
+        (136, begin - 28, "a size that takes up all that is free"),
+        (
+            135,
+            sound.records[135] - 1,
+            "a size one more, the next one less",
+        ),
+    ] {
+        let mut stores = sound.clone();
+        stores.records[word] = value;
+        assert!(sound_but_hopeless(&stores.bytes, &stores.records).is_some());
+        assert!(!slow_sound(&stores.bytes, &stores.records));
+        assert_unsound(&stores, why);
+    }
+    for (word, value) in [
+        (second + 2, 66),
+        (second + 2, 80),
+        (first + 1, 4),
+        (136, begin + 1),
+        (135, sound.records[135] + 1),
+    ] {
+        let mut stores = sound.clone();
+        stores.records[word] = value;
+        // A piece that begins earlier is the longer for it.
+        let hopeful = value != sound.records[135] + 1;
+        let number = stores.run(&Call::Tally).answer.number;
+        assert_eq!(number, if hopeful { 0 } else { 12 }, "{word} {value}");
+    }
+}
+
+#[test]
+fn open_pieces_that_no_order_can_pack() {
+    let mut session = session_at_the_edge();
+    let held = session.tally();
+    assert_eq!(session.put(&[1; 9]).number, 0);
+    assert_eq!(session.close().number, 16);
+    assert_eq!(session.open().number, 0);
+    assert_eq!(session.put(&[1]).number, 0);
+    assert_eq!(session.close().id, 3);
+    assert_eq!(session.close().number, 16);
+    assert_eq!(session.drop_piece().depth, 0);
+    assert_eq!(session.tally().bytes, held.bytes - 65_536 + 1);
+}
+
+#[test]
+fn tampered_large_pieces_are_judged_alike() {
+    let mut numbers = Numbers::new(5);
+    let whole = session_at_the_edge().stores;
+    let words = [record(0), record(2), record(3), record(4)];
+    let (mut counts, mut by_hope) = ([0; 2], 0);
+    for _ in 0..4_000 {
+        let mut stores = whole.clone();
+        for _ in 0..=numbers.below(2) {
+            let word = match numbers.below(3) {
+                0 => numbers.one_of(&[4, 135, 136]),
+                1 => numbers.one_of(&words) + 1,
+                _ => numbers.one_of(&words) + 2,
+            };
+            let near = stores.records[word] + numbers.below(5) as u32;
+            stores.records[word] = near.saturating_sub(2);
+        }
+        let expected = slow_sound(&stores.bytes, &stores.records);
+        let (bytes, records) = (&stores.bytes, &stores.records);
+        assert_eq!(sound(bytes, records).is_some(), expected);
+        counts[usize::from(expected)] += 1;
+        let hopeless = !expected && sound_but_hopeless(bytes, records).is_some();
+        by_hope += usize::from(hopeless);
+    }
+    assert!(counts.iter().all(|&count| count > 500), "{counts:?}");
+    assert!(by_hope > 500, "{by_hope} unsound by hopeless pieces alone");
 }
 
 #[test]

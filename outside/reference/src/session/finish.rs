@@ -18,6 +18,9 @@ pub fn close(store: &mut [u8], records: &mut [u32]) -> Answer {
     if piece.bytes.is_empty() {
         return refuse(answer::EMPTY_PIECE);
     }
+    if view.hopeless(&piece) {
+        return refuse(answer::HOPELESS);
+    }
     let closed = view.closed();
     let layout = view.layout;
     let equal = (0..closed).find(|&id| view.equal(&piece, &view.closed_piece(id)));
