@@ -66,6 +66,27 @@ fn an_inner_start_reaches_the_library_whole() {
 }
 
 #[test]
+fn a_hopeless_object_stays_open() {
+    let (mut store, mut records) = (vec![0; 70_000], vec![0; records_need(2, 1)]);
+    let mut session = Session::start(&mut store, &mut records, 2, 1).unwrap();
+    session.open().unwrap();
+    session.put(b"x").unwrap();
+    let leaf = session.close().unwrap();
+    for (bytes, hopeless) in [(65_534, true), (65_533, false)] {
+        session.open().unwrap();
+        session.link(2, leaf, 0).unwrap();
+        let held = session.put(&vec![7; bytes]).unwrap();
+        if hopeless {
+            let refused = session.close().unwrap_err();
+            assert_eq!(refused.0, Answer { number: 16, ..held });
+            session.drop_object().unwrap();
+        } else {
+            assert_eq!(session.close(), Ok(1));
+        }
+    }
+}
+
+#[test]
 fn a_start_out_of_range_gives_no_session() {
     let (mut store, mut records) = ([0; 8], vec![0; records_need(1, 0)]);
     let refused = Session::start(&mut store, &mut records, 0, 0)

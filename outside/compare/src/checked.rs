@@ -3,7 +3,7 @@
 use crate::claims::Claims;
 use crate::made::{self, Room};
 use crate::pair::{Outcome, Pair};
-use crate::shapes::Graph;
+use crate::shapes::{Graph, Piece};
 use reference::call::Call;
 use reference::random::Numbers;
 
@@ -32,6 +32,7 @@ impl Checked {
 
     /// All pieces of a graph closed, without a call.
     pub fn made(graph: &Graph, room: Room, numbers: &mut Numbers) -> Checked {
+        assert!(!graph.iter().any(Piece::hopeless), "no such session");
         let stores = made::stores(graph, room, numbers);
         let (store, records) = (stores.bytes.len(), stores.records.len());
         let claims = Claims::begin(room.pieces, room.links, store, records);

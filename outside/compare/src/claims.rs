@@ -52,8 +52,12 @@ impl Claims {
         }
         self.met += Met::before(call, &self.history);
         let closed = self.history.tally().objects;
+        let reach = self.history.narrow_reach();
         let expected = self.history.feed(call, store, records);
         assert_eq!(Some(outcome.answer), expected, "{}", script(call));
+        if let Call::Close = call {
+            self.met += Met::close(reach, outcome.answer.number);
+        }
         if outcome.answer.objects > closed {
             self.met += Met::closed(closed as u32, &self.history);
         }

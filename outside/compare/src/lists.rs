@@ -4,6 +4,10 @@ use crate::claims::Claims;
 use reference::call::Call;
 use reference::limits;
 use reference::random::{any_inner, Numbers};
+use reference::Answer;
+
+/// A few bytes less than what a field of width 2 holds.
+const EDGE: usize = 65_533;
 
 /// Limits, lengths and habits of a run.
 #[derive(Clone, Copy, Debug)]
@@ -20,6 +24,11 @@ pub struct Style {
     /// Bytes of puts are below this.
     bytes: usize,
     widths: &'static [u32],
+    /// Of ten puts and links, how many bring the innermost piece about to where
+    /// a field of width 2 can just be filled.
+    edge: usize,
+    /// Mostly a piece gets so many fields before it is closed.
+    fields: usize,
 }
 
 impl Style {
@@ -35,6 +44,8 @@ impl Style {
             opens: 0,
             bytes: 2,
             widths: &[2, 2, 2, 2, 3, 3, 4, 4, 0, 1, 5, 258],
+            edge: 0,
+            fields: 0,
         }
     }
 
@@ -67,10 +78,21 @@ impl Style {
             links: 30,
             store: 200_000 + numbers.below(250_000),
             surplus: 1,
-            sizes: &[2, 6, 30_000, 40_000, 65_525, 65_531, 65_535],
+            sizes: &[2, 6, 33_000, 33_000, 40_000, 65_531],
             opens: 0,
             bytes: 256,
             widths: &[2, 2, 2, 2, 2, 2, 3, 4],
+            edge: 0,
+            fields: 2,
+        }
+    }
+
+    /// Pieces that can hardly be packed, or just not.
+    pub fn edge(numbers: &mut Numbers) -> Style {
+        Style {
+            edge: 6,
+            bytes: 2,
+            ..Style::large(numbers)
         }
     }
 
@@ -90,7 +112,14 @@ impl Style {
         if numbers.below(100) < self.opens {
             return Call::Open;
         }
-        let depth = claims.history.tally().depth;
+        // A hopeless piece would be in the way of all others.
+        if claims.history.narrow_reach() >= Some(EDGE) && numbers.below(2) == 0 {
+            let close = numbers.below(3) > 0;
+            return if close { Call::Close } else { Call::Drop };
+        }
+        let Answer { depth, objects, .. } = claims.history.tally();
+        let few = objects > 1 && claims.history.innermost_fields() < self.fields;
+        let more = few && numbers.below(4) > 0;
         match (numbers.below(200), depth) {
             (0..=1, _) => self.restart(numbers),
             (2..=11, _) => Call::Tally,
@@ -105,6 +134,7 @@ impl Style {
             (71..=100, _) => self.put(claims, numbers),
             (101..=145, _) => self.link(claims, numbers),
             (146..=153, _) => Call::Drop,
+            (_, _) if more => self.link(claims, numbers),
             (_, _) => Call::Close,
         }
     }
@@ -126,18 +156,26 @@ impl Style {
 
     fn link(&self, claims: &Claims, numbers: &mut Numbers) -> Call {
         let place = claims.history.innermost_size().unwrap_or(0);
+        let near = (place + 2).checked_sub(EDGE + numbers.below(4));
+        let inner = match near {
+            Some(near) if numbers.below(10) < self.edge => near as u32,
+            _ => any_inner(place, numbers),
+        };
         Call::Link {
             width: numbers.one_of(self.widths),
             id: any_id(claims, numbers),
-            inner: any_inner(place, numbers),
+            inner,
         }
     }
 
     fn put(&self, claims: &Claims, numbers: &mut Numbers) -> Call {
         let room = self.store - claims.history.sum();
-        let length = match numbers.below(20) {
-            0 => room,
-            1 if numbers.below(4) == 0 => room + 1,
+        let reach = claims.history.narrow_reach();
+        let near = reach.and_then(|reach| (EDGE + numbers.below(4)).checked_sub(reach));
+        let length = match (numbers.below(20), near) {
+            (0, _) => room,
+            (1, _) if numbers.below(4) == 0 => room + 1,
+            (_, Some(near)) if numbers.below(10) < self.edge => near,
             _ => numbers.one_of(self.sizes),
         };
         if length > 100 {

@@ -1,4 +1,5 @@
-//! How often inner starts were met.
+//! How often inner starts, and closes at the edge of what a field can hold, were
+//! met.
 
 use reference::call::Call;
 use reference::history::History;
@@ -18,6 +19,9 @@ pub struct Met {
     pub packed: usize,
     /// New pieces that differ from a closed one in inner starts alone.
     pub apart: usize,
+    /// Accepted closes of pieces that could not have a byte more, and closes
+    /// refused for one byte.
+    pub edge: [usize; 2],
 }
 
 impl Met {
@@ -37,6 +41,19 @@ impl Met {
         met
     }
 
+    /// A close that told this number, of a piece of this narrow reach.
+    pub fn close(reach: Option<usize>, number: u64) -> Met {
+        let edge = match (reach, number) {
+            (Some(65_535), 0) => [1, 0],
+            (Some(65_536), 16) => [0, 1],
+            _ => [0, 0],
+        };
+        Met {
+            edge,
+            ..Met::default()
+        }
+    }
+
     /// A piece that was closed just now, and is new.
     pub fn closed(id: u32, history: &History) -> Met {
         let own = history.reading(id).expect("closed");
@@ -47,7 +64,7 @@ impl Met {
         }
     }
 
-    /// Prints the counts, and gives the least of all but the last.
+    /// Prints the counts, and gives the least of all but the last two.
     pub fn least(&self) -> usize {
         let Met {
             between,
@@ -55,10 +72,14 @@ impl Met {
             refused,
             packed,
             apart,
+            edge: [just, past],
         } = *self;
         println!("  inner starts above 0: {between} links before the field, {at_field} at it");
         println!("  {refused} links refused for theirs alone, {packed} tables with some");
         println!("  {apart} new pieces that differ from a closed one in theirs alone");
+        println!(
+            "  {just} closes that one byte more would keep from passing, {past} that one byte does"
+        );
         [between, at_field, refused, packed]
             .into_iter()
             .min()
@@ -73,6 +94,9 @@ impl AddAssign for Met {
         self.refused += other.refused;
         self.packed += other.packed;
         self.apart += other.apart;
+        for (sum, count) in self.edge.iter_mut().zip(other.edge) {
+            *sum += count;
+        }
     }
 }
 

@@ -2,13 +2,14 @@
 
 use crate::fenced::Fenced;
 use crate::proved::Proved;
+use reference::answer::NUMBERS;
 use reference::call::{Call, Stores};
 use reference::lines::script;
 use reference::random::Numbers;
 use reference::Answer;
 
 /// How often each number was told.
-pub type Counts = [usize; 14];
+pub type Counts = [usize; NUMBERS];
 
 pub struct Pair {
     pub proved: Proved,
@@ -39,7 +40,7 @@ impl Pair {
             proved: Proved::new(&stores),
             before: stores.clone(),
             reference: stores,
-            told: [0; 14],
+            told: [0; NUMBERS],
         }
     }
 

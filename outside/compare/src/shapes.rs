@@ -73,6 +73,22 @@ impl Piece {
         self.bytes.len() + fields
     }
 
+    /// Whether no order can pack it.
+    pub fn hopeless(&self) -> bool {
+        let size = self.size();
+        self.fields()
+            .any(|field| size - field.inner as usize >= 1 << (8 * field.width))
+    }
+
+    /// As many of its bytes as it can have without being hopeless.
+    pub fn cut(&self) -> Piece {
+        let mut cut = self.clone();
+        while cut.hopeless() {
+            cut.bytes.pop().expect("fields alone are short");
+        }
+        cut
+    }
+
     /// All its bytes, its fields being zero.
     pub fn all_bytes(&self) -> Vec<u8> {
         let fields = vec![0; self.size() - self.bytes.len()];

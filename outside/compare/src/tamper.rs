@@ -73,6 +73,33 @@ pub fn an_inner_start(stores: &mut Stores, numbers: &mut Numbers) -> Option<bool
     Some(inner <= place)
 }
 
+/// A word of a closed piece with links, if there is one, set near what it was:
+/// an inner start, a width, or where the piece begins.
+pub fn a_closed_piece(stores: &mut Stores, numbers: &mut Numbers) {
+    let Some(view) = View::framed(&stores.bytes, &stores.records) else {
+        return;
+    };
+    let has_links = |id: &usize| !view.closed_piece(*id).links.is_empty();
+    let parents: Vec<usize> = (0..view.closed()).filter(has_links).collect();
+    if parents.is_empty() {
+        return;
+    }
+    let id = numbers.one_of(&parents);
+    let links = view.closed_piece(id).links;
+    let record = view.layout.link(links.start + numbers.below(links.len()));
+    let at = match numbers.below(4) {
+        0 => view.layout.closed_begin(id + 1),
+        1 => record + 1,
+        _ => record + 2,
+    };
+    let lower = stores.records[at].saturating_sub(1 + numbers.below(3) as u32);
+    stores.records[at] = match numbers.below(4) {
+        0 => near(stores.records[at], numbers),
+        1 if at == record + 2 => any_inner(stores.records[record] as usize, numbers),
+        _ => lower,
+    };
+}
+
 fn a_byte(stores: &mut Stores, numbers: &mut Numbers) {
     let at = numbers.below(stores.bytes.len());
     stores.bytes[at] = numbers.next() as u8;

@@ -107,6 +107,11 @@ impl History {
         self.open.last().map(Draft::size)
     }
 
+    /// How many fields the innermost open piece has.
+    pub fn innermost_fields(&self) -> usize {
+        self.open.last().map_or(0, Draft::field_count)
+    }
+
     /// How far the end of the innermost open piece is from the first inner start
     /// of its fields of width 2.
     pub fn narrow_reach(&self) -> Option<usize> {

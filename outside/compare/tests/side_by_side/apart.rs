@@ -5,6 +5,7 @@ use compare::made::Room;
 use compare::met::Met;
 use compare::shapes::{self, Family, Graph, Make, Piece, PARTS};
 use compare::{seed, Checked, Numbers};
+use reference::answer::NUMBERS;
 use reference::call::Call;
 use reference::Answer;
 
@@ -34,7 +35,7 @@ fn begin(graph: &Graph, numbers: &mut Numbers) -> (Checked, Vec<u32>) {
 #[test]
 fn pieces_that_differ_in_inner_starts_alone() {
     let mut numbers = seed::numbers("pieces apart");
-    let (mut met, mut again, mut told) = (Met::default(), 0, [0; 14]);
+    let (mut met, mut again, mut told) = (Met::default(), 0, [0; NUMBERS]);
     for _ in 0..300 {
         let make = Make {
             pieces: 2 + numbers.below(4),

@@ -1,4 +1,4 @@
-//! The twenty-one hand-counted cases and the traps on both packers.
+//! The twenty-four hand-counted cases and the traps on both packers.
 
 use compare::claims::Claims;
 use compare::met::Met;
@@ -31,6 +31,7 @@ fn run_whole(case: &Case) -> ((Answer, Vec<u8>), Whole) {
         whole.numbers.push(outcome.answer.number);
         if let Call::Close = call {
             whole.ids.push(outcome.answer.id);
+            whole.closes.push(outcome.answer.number);
         }
         last = (outcome.answer, outcome.output.1);
     }
@@ -42,6 +43,8 @@ fn run_whole(case: &Case) -> ((Answer, Vec<u8>), Whole) {
 struct Whole {
     numbers: Vec<u64>,
     ids: Vec<u64>,
+    /// The numbers of its closes.
+    closes: Vec<u64>,
     met: Met,
 }
 
@@ -59,7 +62,7 @@ fn every_case_is_the_same_on_both() {
     for case in hand_counted_cases().iter().chain(&trap_cases()) {
         met += run_whole(case).1.met;
     }
-    assert!(met.least() >= 5);
+    assert!(met.least() >= 5 && met.edge.iter().all(|&count| count >= 5));
 }
 
 #[test]
@@ -70,6 +73,22 @@ fn inner_starts_counted_by_hand() {
         [0, 0, 0, 0, 0, 3, 0, 0, 0, 0, 0, 0, 0, 0, 0, 0, 0, 0]
     );
     assert_eq!(whole.ids, [0, 1, 2, 1]);
+}
+
+#[test]
+fn closes_counted_by_hand() {
+    let refused: [(&str, &[u64]); 7] = [
+        ("21 inner start 4468", &[0, 16]),
+        ("22 size 65535", &[0, 0]),
+        ("22 size 65536", &[0, 16]),
+        ("22 size 65536 and more", &[0, 16, 16]),
+        ("23 size 65545", &[0, 0]),
+        ("23 size 65546", &[0, 16]),
+        ("24", &[0, 5, 16, 8]),
+    ];
+    for (name, closes) in refused {
+        assert_eq!(run_whole(&named(name)).1.closes, closes, "case {name}");
+    }
 }
 
 #[test]
@@ -108,6 +127,11 @@ fn numbers_counted_by_hand() {
         ("10", 4, 0),
         ("15", 2, 0),
         ("20", 0, 13),
+        ("21 inner start 4468", 0, 70_005),
+        ("22 size 65536", 0, 1),
+        ("22 size 65536 and more", 0, 65_538),
+        ("23 size 65546", 0, 65_547),
+        ("24", 0, 65_536),
     ];
     for (name, number, bytes) in last {
         let answer = told(name);
@@ -121,6 +145,8 @@ fn numbers_counted_by_hand() {
         ("11", 65_545),
         ("12", 65_546),
         ("21 inner start 4469", 70_005),
+        ("22 size 65535", 65_536),
+        ("23 size 65545", 65_546),
     ] {
         assert_eq!(
             (told(name).number, told(name).length),
@@ -128,11 +154,7 @@ fn numbers_counted_by_hand() {
             "case {name}"
         );
     }
-    for (name, parent, field, needed) in [
-        ("13", 2, 2, 65_536),
-        ("14", 2, 0, 80_000),
-        ("21 inner start 4468", 1, 70_002, 65_536),
-    ] {
+    for (name, parent, field, needed) in [("13", 2, 2, 65_536), ("14", 2, 0, 80_000)] {
         let answer = told(name);
         let link = (answer.parent, answer.field, answer.needed);
         assert_eq!(

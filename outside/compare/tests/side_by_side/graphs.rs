@@ -4,12 +4,13 @@
 use compare::made::Room;
 use compare::met::Met;
 use compare::pair::Counts;
-use compare::shapes::{self, Family, Graph, Link, Make, FAMILIES, PARTS};
+use compare::shapes::{self, Family, Graph, Link, Make, Piece, FAMILIES, PARTS};
 use compare::{seed, Checked, Numbers, Pair};
 use reference::call::Call;
 use reference::graph::Graph as Drawn;
 use reference::orders;
 use reference::sound::sound;
+use reference::Answer;
 
 #[derive(Default)]
 pub struct Seen {
@@ -38,20 +39,33 @@ fn begin(graph: &Graph, numbers: &mut Numbers) -> Checked {
     Checked::started(room, numbers)
 }
 
-/// Builds the graph, and gives the id of each of its pieces.
+/// Builds the graph, and gives the id of each of its pieces. One that is hopeless
+/// is refused, and stands there cut.
 pub fn build(graph: &Graph, session: &mut Checked, numbers: &mut Numbers) -> Vec<u32> {
     let mut ids = Vec::new();
     for piece in graph {
-        let mut closed = 0;
-        for call in shapes::calls(piece, &ids) {
-            if numbers.below(32) == 0 {
-                too_great(&call, session, numbers);
-            }
-            closed = session.run(&call, numbers).answer.id;
+        let mut closed = write(piece, &ids, session, numbers);
+        assert_eq!(closed.number == 16, piece.hopeless());
+        if piece.hopeless() {
+            session.run(&Call::Drop, numbers);
+            closed = write(&piece.cut(), &ids, session, numbers);
         }
-        ids.push(closed as u32);
+        assert_eq!(closed.number, 0);
+        ids.push(closed.id as u32);
     }
     ids
+}
+
+/// Opens, fills and closes a piece, and gives what the close told.
+fn write(piece: &Piece, ids: &[u32], session: &mut Checked, numbers: &mut Numbers) -> Answer {
+    let mut last = Answer::default();
+    for call in shapes::calls(piece, ids) {
+        if numbers.below(32) == 0 {
+            too_great(&call, session, numbers);
+        }
+        last = session.run(&call, numbers).answer;
+    }
+    last
 }
 
 /// The same link with an inner start just past its field is refused.
@@ -123,7 +137,7 @@ struct Batch {
     make: Make,
 }
 
-const BATCHES: [Batch; 4] = [
+const BATCHES: [Batch; 5] = [
     Batch {
         turns: 1_400,
         families: &FAMILIES,
@@ -152,6 +166,14 @@ const BATCHES: [Batch; 4] = [
         least: 3,
         more: 4,
         make: make(3, &[2, 2, 2, 2, 3, 4], &[2, 4, 10, 10, 65_519, 65_525]),
+    },
+    // Two leaves, often both so large that the second is just too far.
+    Batch {
+        turns: 400,
+        families: &[Family::Fan],
+        least: 3,
+        more: 1,
+        make: make(2, &[2], &[2, 2, 65_529, 65_530, 65_530]),
     },
     // Many pieces whose table is longer than a field of width 2 reaches.
     Batch {
@@ -190,7 +212,7 @@ fn many_graphs() {
     }
     report(&seen);
     assert!(seen.graphs >= 2_000);
-    assert!(seen.told[11] >= 100 && seen.told[10] >= 1_000);
+    assert!(seen.told[11] >= 100 && seen.told[10] >= 1_000 && seen.told[16] >= 50);
     assert!(seen.by_distance >= 30 && seen.one_too_many >= 5);
     assert!(seen.met.least() >= 500 && seen.by_inner >= 20);
 }
@@ -267,8 +289,8 @@ pub fn report(seen: &Seen) {
         seen.graphs, seen.calls, seen.longest
     );
     println!(
-        "  told 0: {}, 10: {}, 11: {}",
-        seen.told[0], seen.told[10], seen.told[11]
+        "  told 0: {}, 10: {}, 11: {}, 16: {}",
+        seen.told[0], seen.told[10], seen.told[11], seen.told[16]
     );
     println!(
         "  tables by the distance order alone: {}, by inner starts alone: {}, offsets of 65,536 refused: {}",

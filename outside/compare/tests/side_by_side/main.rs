@@ -7,6 +7,7 @@ mod cases;
 mod ends;
 mod full;
 mod graphs;
+mod hopeless;
 mod largest;
 mod made;
 mod needs;

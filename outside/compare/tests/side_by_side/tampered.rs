@@ -11,7 +11,7 @@ use reference::call::{Call, Stores};
 use reference::limits;
 use reference::lines::script;
 use reference::random::any_inner;
-use reference::sound::sound;
+use reference::sound::{sound, sound_but_hopeless};
 use std::ops::Range;
 
 /// Sound stores, and the next call that a run would make on them.
@@ -34,11 +34,13 @@ fn session(numbers: &mut Numbers) -> (Style, Claims, Stores) {
 
 /// How often each of the eight calls was made.
 #[derive(Default)]
-struct Seen {
+pub struct Seen {
     /// On unsound stores, all but start refused 12.
-    unsound: [usize; 8],
+    pub unsound: [usize; 8],
     /// On stores still sound, though damaged.
-    sound: [usize; 8],
+    pub sound: [usize; 8],
+    /// On stores that are unsound by a hopeless closed piece alone.
+    pub hopeless: [usize; 8],
     /// Stores in which one inner start was changed and nothing else: past its
     /// field, and not.
     inner: [usize; 2],
@@ -64,8 +66,11 @@ fn kind(call: &Call) -> usize {
 
 impl Seen {
     /// Runs a call on both, told 12 exactly if the stores are not sound.
-    fn run(&mut self, pair: &mut Pair, call: &Call, numbers: &mut Numbers) {
-        let is_sound = sound(&pair.reference.bytes, &pair.reference.records).is_some();
+    pub fn run(&mut self, pair: &mut Pair, call: &Call, numbers: &mut Numbers) {
+        let (bytes, records) = (&pair.reference.bytes, &pair.reference.records);
+        let is_sound = sound(bytes, records).is_some();
+        let hopeless = !is_sound && sound_but_hopeless(bytes, records).is_some();
+        self.hopeless[kind(call)] += usize::from(hopeless);
         let number = pair.run(call, numbers).answer.number;
         if !matches!(call, Call::Start { .. }) {
             assert_eq!(number == 12, !is_sound, "{}", script(call));
