@@ -4,6 +4,8 @@ pub mod Words
 pub mod Graph
 pub mod Order
 pub mod Distance
+pub mod Labels
+pub mod Space
 pub mod Table
 pub mod Reading
 pub mod Laid
@@ -13,3 +15,4 @@ pub mod Session
 pub mod History
 pub mod Cases
 pub mod OrderCases
+pub mod SpaceCases

@@ -10,7 +10,7 @@ use Rattle.model.specs.Graph.{Graph}
 use Rattle.model.specs.Distance.{distance, kahnOrder, distanceOrder}
 use Rattle.model.specs.Table.{Outcome, placed, overflow, arranged}
 
--- sizes and links by id; both orders from the root; what does not fit in the distance order, where neither fits
+-- sizes and links by id; the first two orders from the root; what does not fit in the last one, where none fits
 pub record Case : Type 0 where
   pub sizes : List ℕ
   pub links : List (List Link)
@@ -20,7 +20,7 @@ pub record Case : Type 0 where
   pub unfit : List ℕ
 
 -- the parent, the field's place and the offset needed
-abbrev unfitIn : Outcome → List ℕ
+abbrev pub unfitIn : Outcome → List ℕ
 unfitIn (placed o) = []
 unfitIn (overflow u) = u .parent .0 ∷ u .field ∷ u .needed ∷ []
 
@@ -34,7 +34,7 @@ unfoldable pub allRight : List Case → Bool
 allRight [] = true
 allRight (c ∷ cs) = right c && allRight cs
 
-abbrev to : ℕ → ℕ → ℕ → Link
+abbrev pub to : ℕ → ℕ → ℕ → Link
 to at width child = record { slot = record { at = at; width = width; inner = 0 }; child = child }
 
 -- with an inner start
@@ -150,13 +150,13 @@ cases =
       distance = 1 ∷ 0 ∷ [];
       unfit = 1 ∷ 70002 ∷ 65536 ∷ [];
     }
-    -- HarfBuzz's graph: f d b g e c a are 0 to 6
+    -- HarfBuzz's graph: f d b g e c a are 0 to 6; the order by spaces fits
     ∷ record {
       sizes = 1 ∷ 40000 ∷ 2 ∷ 1 ∷ 40000 ∷ 2 ∷ 8 ∷ [];
       links = [] ∷ (to 0 2 0 ∷ []) ∷ (to 0 2 1 ∷ []) ∷ [] ∷ (to 0 2 3 ∷ []) ∷ (to 0 2 4 ∷ []) ∷ (to 0 4 2 ∷ to 4 4 5 ∷ []) ∷ [];
       root = 6;
       kahn = 6 ∷ 2 ∷ 5 ∷ 1 ∷ 4 ∷ 0 ∷ 3 ∷ [];
       distance = 6 ∷ 2 ∷ 5 ∷ 1 ∷ 4 ∷ 0 ∷ 3 ∷ [];
-      unfit = 1 ∷ 0 ∷ 80000 ∷ [];
+      unfit = [];
     }
     ∷ []

@@ -10,6 +10,7 @@ use Rattle.big_endian.specs.BigEndian.{fits, bigEndian}
 use Rattle.model.specs.Object.{Slot, Link}
 use Rattle.model.specs.Graph.{Graph, reached}
 use Rattle.model.specs.Distance.{kahnOrder, distanceOrder}
+use Rattle.model.specs.Space.{spaceOrder}
 
 -- the sum of f over those before x in an order
 unfoldable pub before : (ℕ → ℕ) → List ℕ → ℕ → ℕ
@@ -60,7 +61,7 @@ firstFit g o (p ∷ ps) = tryOrder (unfit g o) o (firstFit g p ps)
 
 -- the orders that a pack tries after the kahn order, in turn
 abbrev pub laterOrders : Graph → ℕ → List (List ℕ)
-laterOrders g root = distanceOrder g root ∷ []
+laterOrders g root = distanceOrder g root ∷ spaceOrder g root ∷ []
 
 unfoldable pub arranged : Graph → ℕ → Outcome
 arranged g root = firstFit g (kahnOrder g root) (laterOrders g root)

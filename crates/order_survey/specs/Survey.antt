@@ -89,12 +89,15 @@ pub record Along (a : Areas) (n r : ℕ) (w : List ℕ) : Type 0 where
 pub record LoweredAlong (a : Areas) (n r : ℕ) (w w′ : List ℕ) : Type 0 where
   pub kept : Kept (a .distances) (a .end) w w′
   pub distances : distancesIn a w′ ≡ relaxAll farAway (weight (graphOn a n w)) (graphOn a n w) (lineIn a r w) (distancesIn a w)
+  pub near : ceiling (distancesIn a w′) ≤ farAway + 1
 
 pub record DistancesSet (a : Areas) (n root r : ℕ) (w w′ : List ℕ) : Type 0 where
   pub kept : Kept (a .distances) (a .end) w w′
   pub distances : distancesIn a w′ ≡ distancesBy farAway (weight (graphOn a n w)) (graphOn a n w) (lineIn a r w) (a .nodes) root
+  pub near : ceiling (distancesIn a w′) ≤ farAway + 1
 
--- ---- the whole, by the model's definitions. What the orders lean on is that the root's nodes are all there and that children rank below their parents
+-- ---- the whole, by the model's definitions. What the orders lean on is that the root's nodes are all there, that children rank below their parents, and
+-- that no word of the distances is past `farAway`
 
 pub record Surveyed (a : Areas) (n root : ℕ) (w : List ℕ) : Type 0 where
   pub graph : Stands a n w
@@ -104,6 +107,7 @@ pub record Surveyed (a : Areas) (n root : ℕ) (w : List ℕ) : Type 0 where
   pub rooted : Rooted (graphOn a n w) (reached (graphOn a n w) root) root
   pub incoming : (c : ℕ) → getD (incomingIn a w) c 0 ≡ waits (graphOn a n w) (reached (graphOn a n w) root) c
   pub distances : (c : ℕ) → 0 < count c (reached (graphOn a n w) root) → getD (distancesIn a w) c 0 ≡ distance (graphOn a n w) root c
+  pub near : ceiling (distancesIn a w) ≤ farAway + 1
 
 pub record Measured (a : Areas) (n root length : ℕ) (w w′ : List ℕ) : Type 0 where
   pub kept : Kept (a .line) (a .end) w w′

@@ -11,7 +11,11 @@ use Rattle.model.specs.Graph.{Acyclic}
 use Rattle.work.specs.Areas.{areasOf, workNeed, graphWords}
 use Rattle.work.specs.declared.Areas.{Areas}
 use Rattle.order_graph.specs.Graph.{graphOn, linkOf, linksAt, linkCount, mostNodes, mostNodeLinks, mostSize, Stands}
+use Rattle.work.specs.Views.{orderIn}
 use Rattle.order_survey.specs.Survey.{Surveyed}
+use Rattle.order_place.specs.Run.{OrderIds}
+use Rattle.order.specs.Try.{orderWith}
+use Rattle.order.specs.declared.By.{By}
 
 -- enough words for the largest of the graphs
 abbrev pub space : ℕ
@@ -47,6 +51,8 @@ pub record Stood (a : Areas) (w : List ℕ) : Type 0 where
   pub some : 0 < a .nodes
   pub falls : Acyclic (graphOn a (a .nodes) w)
 
--- an order can be tried from the root
-abbrev pub Ready : Areas → List ℕ → Type 0
-Ready a w = Surveyed a (a .nodes) (a .nodes - 1) w
+-- an order by its keys stands in the memory, and the next can be tried
+pub record Shown (a : Areas) (by : By) (r : ℕ) (w : List ℕ) : Type 0 where
+  pub surveyed : Surveyed a (a .nodes) (a .nodes - 1) w
+  pub nodes : OrderIds a (a .nodes) r w
+  pub order : orderIn a r w ≡ orderWith by (graphOn a (a .nodes) w) (a .nodes - 1)

@@ -1,17 +1,21 @@
 -- docs/RULES.md, 7.9, on lent memory: orders laid: placed in the work memory and, where every offset fits, the table written in front of the output.
 use Prim.Native.Nat.{ℕ, _≤_}
 use mathlib.Core.Path.{_≡_}
-use mathlib.Core.List.{List, []}
+use mathlib.Core.List.{List, [], _∷_}
 use Rattle.lists.specs.Lists.{over}
 use Rattle.regions.specs.Region.{Kept}
 use Rattle.model.specs.Graph.{graphOf}
+use Rattle.model.specs.Distance.{distanceOrder}
+use Rattle.model.specs.Space.{spaceOrder}
 use Rattle.model.specs.Table.{Outcome, placed, overflow, firstFit, tableLength}
 use Rattle.model.specs.Session.{tableIn}
 use Rattle.layout.specs.Decode.{decode}
 use Rattle.layout.specs.Known.{Read}
 use Rattle.layout.specs.declared.state.State.{State}
 use Rattle.work.specs.declared.Areas.{Areas}
+use Rattle.work.specs.Views.{orderIn}
 use Rattle.order_survey.specs.Survey.{Surveyed}
+use Rattle.order_place.specs.Run.{OrderIds}
 use Rattle.order_fit.specs.declared.Look.{Look}
 use Rattle.order_fit.specs.declared.Look.the-variants.{Fits, Over}
 use Rattle.order.specs.Try.{orderWith}
@@ -33,8 +37,18 @@ lookIn (overflow u) = Over u
 abbrev pub oneOrder : List ℕ → List ℕ → ℕ → By → Outcome
 oneOrder b w root by = firstFit (graphOf (decode b w .closed)) (orderWith by (graphOf (decode b w .closed)) root) []
 
+-- the outcome where the kahn order is not tried
+abbrev pub laterOrder : List ℕ → List ℕ → ℕ → Outcome
+laterOrder b w root = let g = graphOf (decode b w .closed) in firstFit g (distanceOrder g root) (spaceOrder g root ∷ [])
+
 -- u came out: the look r tells it, its table is over the output, and of the work memory only the order's areas have changed
 pub record Laid (b w : List ℕ) (a : Areas) (u : Outcome) (r : Look) (out out′ m m′ : List ℕ) : Type 0 where
   pub kept : Kept (a .keys) (a .incoming) m m′
   pub told : r ≡ lookIn u
   pub written : out′ ≡ over 0 (tableIn (decode b w) u) out
+
+-- the same of one order, which stands in the work memory then
+pub record LaidOrder (b w : List ℕ) (s : State) (a : Areas) (root : ℕ) (by : By) (r : ℕ) (u : Look) (out out′ m m′ : List ℕ) : Type 0 where
+  pub laid : Laid b w a (oneOrder b w root by) u out out′ m m′
+  pub nodes : OrderIds a (s .closed) r m′
+  pub order : orderIn a r m′ ≡ orderWith by (graphOf (decode b w .closed)) root

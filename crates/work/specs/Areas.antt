@@ -10,8 +10,8 @@ use Rattle.work.specs.declared.Areas.{Areas}
 abbrev pub graphWords : ℕ → ℕ → ℕ
 graphWords nodes links = nodes * 3 + links * linkWords
 
--- behind it six arrays of a word for each node. Two pairs share their words, since one of each is done with before the other begins: the
--- ready nodes and the places, and the line and the order
+-- behind it six areas of a word for each node. Some have several names, since one array is done with before another begins there: the line
+-- and the order; the ready nodes and the places; and between two orders, where the spaces are found, three of an order's
 abbrev pub areasOf : ℕ → ℕ → Areas
 areasOf nodes links =
     let g = graphWords nodes links in
@@ -21,9 +21,12 @@ areasOf nodes links =
       counts = nodes * 2;
       links = nodes * 3;
       keys = g;
+      spots = g;
       waiting = g + nodes;
+      spaces = g + nodes;
       ready = g + nodes * 2;
       places = g + nodes * 2;
+      bosses = g + nodes * 2;
       order = g + nodes * 3;
       line = g + nodes * 3;
       incoming = g + nodes * 4;
@@ -44,9 +47,12 @@ pub record Apart (a : Areas) : Type 0 where
   pub counts : a .counts ≡ a .firsts + a .nodes
   pub links : a .links ≡ a .counts + a .nodes
   pub keys : a .links ≤ a .keys
+  pub spots : a .spots ≡ a .keys
   pub waiting : a .waiting ≡ a .keys + a .nodes
+  pub spaces : a .spaces ≡ a .waiting
   pub ready : a .ready ≡ a .waiting + a .nodes
   pub places : a .places ≡ a .ready
+  pub bosses : a .bosses ≡ a .ready
   pub order : a .order ≡ a .ready + a .nodes
   pub line : a .line ≡ a .order
   pub incoming : a .incoming ≡ a .order + a .nodes
@@ -60,9 +66,12 @@ areas-apart nodes links =
       counts = omega arith;
       links = omega arith;
       keys = omega arith;
+      spots = omega arith;
       waiting = omega arith;
+      spaces = omega arith;
       ready = omega arith;
       places = omega arith;
+      bosses = omega arith;
       order = omega arith;
       line = omega arith;
       incoming = omega arith;

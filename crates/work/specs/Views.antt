@@ -39,3 +39,17 @@ incomingIn a w = region (a .incoming) (a .nodes) w
 -- each reached node's distance from the root
 abbrev pub distancesIn : Areas → List ℕ → List ℕ
 distancesIn a w = region (a .distances) (a .nodes) w
+
+-- ---- between two orders
+
+-- each node's position in the order; in space 0 the root's, which is 0
+abbrev pub spotsIn : Areas → List ℕ → List ℕ
+spotsIn a w = region (a .spots) (a .nodes) w
+
+-- the boss of each of r positions
+abbrev pub bossesIn : Areas → ℕ → List ℕ → List ℕ
+bossesIn a r w = region (a .bosses) r w
+
+-- the number of each node's space
+abbrev pub spacesIn : Areas → List ℕ → List ℕ
+spacesIn a w = region (a .spaces) (a .nodes) w
