@@ -5,19 +5,21 @@ use order_fit::Look;
 use order_fit::look_all;
 use order_fit::set_places;
 use order_place::place_all;
+use order_spaces::number_spaces;
 use regions::copy;
 use regions::fill;
 use work::Areas;
-ghost use Prim.Native.Nat.{_≤_};
-ghost use lib.ListN.{length};
-ghost use Rattle.work.specs.Areas.{Apart};
-ghost use Rattle.order_survey.specs.Survey.{Surveyed};
-ghost use Rattle.order.specs.Try.{Keyed, Tried};
+ghost use Rattle.order.specs.Try.{DistanceOrder, SpacesFound, Keying, Keyed, Trying, Tried};
+ghost use Rattle.order.specs.declared.By.the-variants as By;
 
-// By what the next of the ready nodes is chosen: the longest ready, or the nearest.
+// What the number of a space weighs beside a distance.
+const SPACE_WEIGHT: u64 = 4294967296;
+
+// By what the next of the ready nodes is chosen: the longest ready, the nearest, or the nearest of the lowest space.
 pub enum By {
     Readiness,
     Distance,
+    Space,
 }
 
 pub struct Try {
@@ -25,19 +27,43 @@ pub struct Try {
     pub look: Look,
 }
 
+// The number of each node's space, by the shortest-distance order of r nodes that stands there. The order by spaces asks for them.
+pub fn find_spaces(work: &mut [u64], a: Areas, n: usize, root: usize, r: usize)
+    requires { ⌜ DistanceOrder a n root r (now work) ⌝ }
+    ensures { λ _. ⌜ SpacesFound a n root (now (work .entry)) (now (work .exit)) ⌝ }
+{
+    number_spaces(work, a, n, r, root);
+}
+
+// The keys of the order by spaces.
+fn weigh_spaces(work: &mut [u64], a: Areas)
+    requires { ⌜ Keying a By.Space (now work) ⌝ }
+    ensures { λ _. ⌜ Keyed a By.Space (now (work .entry)) (now (work .exit)) ⌝ }
+{
+    let nodes = a.nodes;
+    let mut i = 0;
+    while i < nodes {
+        let d = a.distances + i;
+        let s = a.spaces + i;
+        let k = a.keys + i;
+        work[k] = work[d] + work[s] * SPACE_WEIGHT;
+        i += 1;
+    }
+}
+
 fn fill_keys(work: &mut [u64], a: Areas, by: By)
-    requires { ⌜ Apart a × (a .end ≤ length (now work)) ⌝ }
+    requires { ⌜ Keying a by (now work) ⌝ }
     ensures { λ _. ⌜ Keyed a by (now (work .entry)) (now (work .exit)) ⌝ }
 {
-    let By::Distance = by else {
-        fill(work, a.keys, a.nodes, 0);
-        return;
-    };
-    copy(work, a.distances, a.keys, a.nodes);
+    match by {
+        By::Readiness => fill(work, a.keys, a.nodes, 0),
+        By::Distance => copy(work, a.distances, a.keys, a.nodes),
+        By::Space => weigh_spaces(work, a),
+    }
 }
 
 pub fn try_order(work: &mut [u64], a: Areas, n: usize, root: usize, by: By) -> Try
-    requires { ⌜ Surveyed a n root (now work) ⌝ }
+    requires { ⌜ Trying a n root by (now work) ⌝ }
     ensures { λ r. ⌜ Tried a n root by (r .placed) (r .look) (now (work .entry)) (now (work .exit)) ⌝ }
 {
     fill_keys(work, a, by);

@@ -1,15 +1,18 @@
-// Prints, for each named graph, the two orders, the places of their nodes and the first link that does not fit.
+// Prints, for each named graph, the three orders, the places of their nodes and the first link that does not fit.
 ghost use mathlib.Core.Path.{_≡_};
 ghost use mathlib.Core.Bool.{true};
 ghost use mathlib.Core.List.{_++_};
-ghost use Prim.Native.Nat.{_+_, _/_, _≤_};
+ghost use Prim.Native.Nat.{_+_, _-_, _/_, _≤_};
 ghost use lib.ListN.{length};
 ghost use Rattle.model.specs.Words.{linkWords};
 ghost use Rattle.order_fit.specs.Fit.{Placing};
-ghost use Rattle.orders.specs.Given.{given, Loaded, Stood, Ready};
+ghost use Rattle.order_survey.specs.Survey.{Surveyed};
+ghost use Rattle.order.specs.Try.{Trying};
+ghost use Rattle.orders.specs.Given.{given, Loaded, Stood, Shown};
 use answer::Overflow;
 use model::LINK_WORDS;
 use order::By;
+use order::find_spaces;
 use order::try_order;
 use order_fit::Look;
 use order_fit::node_at;
@@ -70,15 +73,27 @@ fn print_look(look: Look) {
     text(b"\n");
 }
 
-fn show_order(name: &[u8], work: &mut [u64], a: Areas, by: By)
-    requires { ⌜ Ready a (now work) ⌝ }
-    ensures { λ _. ⌜ Ready a (now (work .exit)) ⌝ }
+// The answer is how many nodes are placed.
+fn show_order(name: &[u8], work: &mut [u64], a: Areas, by: By) -> usize
+    requires { ⌜ Trying a (a .nodes) (a .nodes - 1) by (now work) ⌝ }
+    ensures { λ r. ⌜ Shown a by r (now (work .exit)) ⌝ }
 {
     let n = a.nodes;
     let tried = try_order(work, a, n, n - 1, by);
     print_order(name, work, a, n, tried.placed);
     let look = tried.look;
     print_look(look);
+    tried.placed
+}
+
+// The spaces go by the distance order.
+fn show_later(work: &mut [u64], a: Areas)
+    requires { ⌜ Surveyed a (a .nodes) (a .nodes - 1) (now work) ⌝ }
+{
+    let n = a.nodes;
+    let placed = show_order(b"distance=", work, a, By::Distance);
+    find_spaces(work, a, n, n - 1, placed);
+    show_order(b"spaces=", work, a, By::Space);
 }
 
 fn show_orders(work: &mut [u64], a: Areas)
@@ -87,7 +102,7 @@ fn show_orders(work: &mut [u64], a: Areas)
     let n = a.nodes;
     survey(work, a, n, n - 1);
     show_order(b"\nkahn=", work, a, By::Readiness);
-    show_order(b"distance=", work, a, By::Distance);
+    show_later(work, a);
 }
 
 fn print_name(name: &[u8]) {
@@ -256,6 +271,71 @@ fn graph_least_of_two_paths() {
     show(b"least of two paths", &nodes, &links, 5);
 }
 
+fn graph_spaces_by_distance() {
+    let nodes: [u64; 21] = [
+        1,
+        40000,
+        1,
+        30000,
+        1,
+        50000,
+        12,
+        0,
+        0,
+        1,
+        1,
+        2,
+        2,
+        3,
+        0,
+        1,
+        0,
+        1,
+        0,
+        1,
+        3,
+    ];
+    let links: [u64; 24] = [
+        0,
+        2,
+        0,
+        0,
+        0,
+        2,
+        0,
+        2,
+        0,
+        2,
+        0,
+        4,
+        0,
+        4,
+        0,
+        5,
+        4,
+        4,
+        0,
+        1,
+        8,
+        4,
+        0,
+        3,
+    ];
+    show(b"spaces by distance", &nodes, &links, 7);
+}
+
+fn graph_child_in_space_0() {
+    let nodes: [u64; 12] = [10, 40000, 40000, 10, 0, 0, 1, 2, 0, 1, 1, 3];
+    let links: [u64; 20] = [0, 2, 0, 0, 0, 2, 0, 0, 0, 2, 0, 0, 2, 4, 0, 1, 6, 4, 0, 2];
+    show(b"child in space 0", &nodes, &links, 4);
+}
+
+fn graph_shared_child() {
+    let nodes: [u64; 12] = [1, 3, 2, 8, 0, 0, 1, 2, 0, 1, 1, 2];
+    let links: [u64; 16] = [0, 2, 0, 0, 0, 2, 0, 0, 0, 4, 0, 2, 4, 4, 0, 1];
+    show(b"shared child", &nodes, &links, 4);
+}
+
 fn main() {
     graph_5();
     graph_11();
@@ -272,4 +352,7 @@ fn main() {
     graph_three_weighs_more_than_two();
     graph_three_weighs_less_than_four();
     graph_least_of_two_paths();
+    graph_spaces_by_distance();
+    graph_child_in_space_0();
+    graph_shared_child();
 }

@@ -79,7 +79,7 @@ pub fn pack_sound(
 }
 
 // 12 where the session is not sound, 13 too little work memory, 9 an object open, 4 no such closed object, 10 the output too short,
-// 11 neither order fits.
+// 11 no order fits.
 pub fn pack(
     store: &[u8],
     records: &[u32],

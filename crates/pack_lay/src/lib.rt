@@ -1,6 +1,8 @@
 // An order laid: tried, and its table written where every offset fits.
 use layout::state::State;
 use order::By;
+use order::Try;
+use order::find_spaces;
 use order::try_order;
 use order_fit::Look;
 use pack_write::write_table;
@@ -9,7 +11,8 @@ ghost use lib.ListN.{length};
 ghost use Rattle.model.specs.Graph.{graphOf};
 ghost use Rattle.model.specs.Table.{arranged};
 ghost use Rattle.layout.specs.Decode.{decode};
-ghost use Rattle.pack_lay.specs.Lay.{Laying, Laid, oneOrder};
+ghost use Rattle.order.specs.Try.{Asked};
+ghost use Rattle.pack_lay.specs.Lay.{laterOrder, Laying, Laid, LaidOrder};
 
 // One order tried, and its table written where every offset fits.
 fn lay_order(
@@ -21,20 +24,43 @@ fn lay_order(
     by: By,
     out: &mut [u8],
     work: &mut [u64],
-) -> Look
-    requires { ⌜ Laying (now store) (now records) s a root (length (now out)) (now work) ⌝ }
-    ensures { λ r. ⌜ Laid (now (store .entry)) (now (records .entry)) a (oneOrder (now (store .entry)) (now (records .entry)) root by) r (now (out .entry)) (now (out .exit)) (now (work .entry)) (now (work .exit)) ⌝ }
+) -> Try
+    requires { ⌜ Laying (now store) (now records) s a root (length (now out)) (now work) × Asked by a (s .closed) root (now work) ⌝ }
+    ensures { λ r. ⌜ LaidOrder (now (store .entry)) (now (records .entry)) s a root by (r .placed) (r .look) (now (out .entry)) (now (out .exit)) (now (work .entry)) (now (work .exit)) ⌝ }
 {
     let tried = try_order(work, a, s.closed, root, by);
     let look = tried.look;
     let Look::Fits = look else {
-        return look;
+        return tried;
     };
     write_table(out, store, records, s, a, work, tried.placed);
-    Look::Fits
+    tried
 }
 
-// The plain order, or where some offset does not fit in it the distance order.
+// The distance order, or where some offset does not fit in it the order by spaces.
+fn lay_later(
+    store: &[u8],
+    records: &[u32],
+    s: State,
+    a: Areas,
+    root: usize,
+    out: &mut [u8],
+    work: &mut [u64],
+) -> Look
+    requires { ⌜ Laying (now store) (now records) s a root (length (now out)) (now work) ⌝ }
+    ensures { λ r. ⌜ Laid (now (store .entry)) (now (records .entry)) a (laterOrder (now (store .entry)) (now (records .entry)) root) r (now (out .entry)) (now (out .exit)) (now (work .entry)) (now (work .exit)) ⌝ }
+{
+    let tried = lay_order(store, records, s, a, root, By::Distance, out, work);
+    let look = tried.look;
+    let Look::Over(_) = look else {
+        return look;
+    };
+    find_spaces(work, a, s.closed, root, tried.placed);
+    let last = lay_order(store, records, s, a, root, By::Space, out, work);
+    last.look
+}
+
+// The plain order, or where some offset does not fit in it a later one.
 pub fn lay_first_fit(
     store: &[u8],
     records: &[u32],
@@ -47,9 +73,10 @@ pub fn lay_first_fit(
     requires { ⌜ Laying (now store) (now records) s a root (length (now out)) (now work) ⌝ }
     ensures { λ r. ⌜ Laid (now (store .entry)) (now (records .entry)) a (arranged (graphOf (decode (now (store .entry)) (now (records .entry)) .closed)) root) r (now (out .entry)) (now (out .exit)) (now (work .entry)) (now (work .exit)) ⌝ }
 {
-    let look = lay_order(store, records, s, a, root, By::Readiness, out, work);
+    let tried = lay_order(store, records, s, a, root, By::Readiness, out, work);
+    let look = tried.look;
     let Look::Over(_) = look else {
         return look;
     };
-    lay_order(store, records, s, a, root, By::Distance, out, work)
+    lay_later(store, records, s, a, root, out, work)
 }
