@@ -9,6 +9,8 @@ use Rattle.model.specs.Bag.{one, count, without, zerosOf, lastOnce, leas
 use Rattle.model.specs.Graph.{kidsOf, waits, reachDown, reached}
 use Rattle.model.specs.Order.{orderFrom, orderBy}
 use Rattle.model.specs.Distance.{relax, relaxAll, distancesBy, beyond, distance, kahnOrder, distanceOrder}
+use Rattle.model.specs.Labels.{merged, merge, begun, numbers}
+use Rattle.model.specs.Space.{narrow, narrowOf, nearFrom, near, spot, joinKids, joinAll, labelsBy, spaceOrder}
 use Rattle.model.specs.Table.{before, offset, unfitLinks, unfitFrom, tryOrder, tryLast, firstFit, arranged, tableLength, filled, objectBytes, tableFrom, tableOf}
 use Rattle.model.specs.Judge.{verdict, numberOf}
 use Rattle.model.specs.Session.{step, pack, afterCall}
@@ -33,5 +35,5 @@ unfolding verdict
 several-right = refl
 
 pub graphs-right : ordersRight graphs ≡ true
-unfolding ordersRight orderRight arranged firstFit tryOrder tryLast unfitFrom unfitLinks offset before kahnOrder distanceOrder distance distancesBy beyond relaxAll relax orderBy orderFrom reached reachDown waits kidsOf one count without zerosOf lastOnce least sameList total
+unfolding ordersRight orderRight arranged firstFit tryOrder tryLast spaceOrder labelsBy joinAll joinKids spot near nearFrom narrowOf narrow numbers begun merge merged unfitFrom unfitLinks offset before kahnOrder distanceOrder distance distancesBy beyond relaxAll relax orderBy orderFrom reached reachDown waits kidsOf one count without zerosOf lastOnce least sameList total firstThat
 graphs-right = refl

@@ -4,6 +4,11 @@ pub mod Reach
 pub mod Orders
 pub mod Before
 pub mod Distances
+pub mod Labels
+pub mod Spots
+pub mod Near
+pub mod Together
+pub mod Spaces
 pub mod Filled
 pub mod Tables
 pub mod Readings
@@ -24,3 +29,4 @@ pub mod Closings
 pub mod Written
 pub mod Refused
 pub mod Cases
+pub mod SpaceCases

@@ -7,7 +7,9 @@ use Rattle.lists.proofs.Elements.{Each, none, more}
 use Rattle.answer.specs.declared.Overflow.{Overflow}
 use Rattle.model.specs.Bag.{count}
 use Rattle.model.specs.Graph.{Graph, reached, Acyclic, ParentsFirst}
-use Rattle.model.specs.Distance.{distance, kahnOrder, distanceOrder}
+use Rattle.model.specs.Order.{orderBy}
+use Rattle.model.specs.Distance.{kahnOrder, distanceOrder}
+use Rattle.model.specs.Space.{spaceOrder}
 use Rattle.model.specs.Table.{unfit, Outcome, placed, overflow, tryOrder, tryLast, firstFit, arranged, FirstFit, here, later, NoneFits, last, earlier}
 use Rattle.model.proofs.Orders.{orderBy-once, orderBy-first}
 
@@ -77,16 +79,20 @@ placed-one {P = P} g o h (more {x = p} {l = ps} k r) t e = go (unfit g o) refl (
     go [] f i z = let q : o ≡ t = cc in (subst P q h, ap (unfit g) (sym q) ∙ f)
     go (u ∷ us) f i z = i z
 
+abbrev Whole : Graph → ℕ → List ℕ → Type 0
+Whole g root o = ((c : ℕ) → count c o ≡ count c (reached g root)) × ParentsFirst g o
+
 -- every reached object once, parents first, every link fitting
 pub record Arranged (g : Graph) (root : ℕ) (o : List ℕ) : Type 0 where
   pub once : (c : ℕ) → count c o ≡ count c (reached g root)
   pub first : ParentsFirst g o
   pub fit : unfit g o ≡ []
 
+whole : (g : Graph) (root : ℕ) → Acyclic g → (key : ℕ → ℕ) → Whole g root (orderBy key g root)
+whole g root y key = (orderBy-once key g y root, orderBy-first key g y root)
+
 pub placed-arranged : (g : Graph) (root : ℕ) → Acyclic g → (o : List ℕ) → arranged g root ≡ placed o → Arranged g root o
-unfolding arranged kahnOrder distanceOrder
+unfolding arranged kahnOrder distanceOrder spaceOrder
 placed-arranged g root y o e =
-    let p = placed-one {P = λ t. ((c : ℕ) → count c t ≡ count c (reached g root)) × ParentsFirst g t} g (kahnOrder g root)
-    (orderBy-once (λ i. 0) g y root, orderBy-first (λ i. 0) g y root)
-    (more (orderBy-once (distance g root) g y root, orderBy-first (distance g root) g y root) none) o e in
+    let p = placed-one {P = Whole g root} g (kahnOrder g root) (whole g root y _) (more (whole g root y _) (more (whole g root y _) none)) o e in
     record { once = p .0 .0; first = p .0 .1; fit = p .1 }

@@ -1,5 +1,7 @@
 pub mod Counted
+pub mod Keys
 pub mod Orders
+pub mod Spaces
 pub mod Placed
 pub mod Looked
 pub mod Trying

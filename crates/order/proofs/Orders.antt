@@ -1,20 +1,19 @@
--- Either order has what the root reaches, each once, and goes by its keys.
-use mathlib.Core.Path.{_≡_, refl}
-use Prim.Native.Nat.{ℕ, _≤_, _<_}
+-- Every order has what the root reaches, each once, and goes by its keys.
+use mathlib.Core.Path.{_≡_, refl, _∙_}
+use Prim.Native.Nat.{ℕ, _+_, _*_, _≤_, _<_}
 use mathlib.Core.List.{List}
 use native.Mathlib.Omega.{arith}
-use lib.ListN.{getD-replicate}
 use Rattle.model.specs.Bag.{count}
 use Rattle.model.specs.Graph.{Graph, reached, Ranked, Rooted, Closed, Once}
 use Rattle.model.specs.Order.{orderBy}
 use Rattle.model.specs.Distance.{distance, kahnOrder, distanceOrder}
+use Rattle.model.specs.Space.{spaceOf, spaceWeight, spaceOrder}
 use Rattle.model.proofs.Reach.{reached-low}
 use Rattle.model.proofs.Orders.{order-counts}
 use Rattle.work.specs.Views.{keyIn}
 use Rattle.work.specs.declared.Areas.{Areas}
 use Rattle.order_graph.specs.Graph.{graphOn}
-use Rattle.order_survey.specs.Survey.{Surveyed}
-use Rattle.order.specs.Try.{Keyed, orderWith}
+use Rattle.order.specs.Try.{keyBy, orderWith, Trying, Keyed}
 use Rattle.order.specs.declared.By.{By}
 use Rattle.order.specs.declared.By.the-variants as By
 use Rattle.order.proofs.Counted.{orders-agree}
@@ -23,11 +22,13 @@ use Rattle.order.proofs.Counted.{orders-agree}
 abbrev keyWith : By → Graph → ℕ → ℕ → ℕ
 keyWith By.Readiness g root i = 0
 keyWith By.Distance g root i = distance g root i
+keyWith By.Space g root i = distance g root i + spaceOf g (distanceOrder g root) root i * spaceWeight
 
 with-key : (by : By) (g : Graph) (root : ℕ) → orderWith by g root ≡ orderBy (keyWith by g root) g root
-unfolding kahnOrder distanceOrder
+unfolding kahnOrder distanceOrder spaceOrder
 with-key By.Readiness g root = refl
 with-key By.Distance g root = refl
+with-key By.Space g root = refl
 
 module _ (by : By) (g : Graph) (rank : ℕ → ℕ) (y : Ranked rank g) (root : ℕ) (r : Rooted g (reached g root) root) where
   pub with-counts : (c : ℕ) → count c (orderWith by g root) ≡ count c (reached g root)
@@ -46,10 +47,14 @@ module _ (by : By) (g : Graph) (rank : ℕ → ℕ) (y : Ranked rank g) (root : 
   with-low c h = omega (arith, reached-low g root c (rw (with-counts c) at h))
 
 -- the keys filled in give that order
-module _ {a : Areas} {n root : ℕ} {w w′ : List ℕ} (t : Surveyed a n root w) where
-  filled-key : (by : By) → Keyed a by w w′ → (c : ℕ) → 0 < count c (reached (graphOn a n w) root) → keyIn a w′ c ≡ keyWith by (graphOn a n w) root c
-  filled-key By.Readiness k c h = rw (k .keys) (getD-replicate (a .nodes) c 0 0 (omega (arith, reached-low (graphOn a n w) root c h)))
-  filled-key By.Distance k c h = rw (k .keys) (t .distances c h)
+module _ {a : Areas} {n root : ℕ} {w : List ℕ} where
+  words-key : (by : By) → Trying a n root by w → (c : ℕ) → 0 < count c (reached (graphOn a n w) root) → keyBy by a w c ≡ keyWith by (graphOn a n w) root c
+  words-key By.Readiness t c h = refl
+  words-key By.Distance t c h = t .surveyed .distances c h
+  words-key By.Space t c h = rw (t .surveyed .distances c h, t .asked .numbers c h)
 
-  pub filled-order : {by : By} → Keyed a by w w′ → orderBy (keyIn a w′) (graphOn a n w) root ≡ orderWith by (graphOn a n w) root
-  filled-order {by} k = rw (with-key by (graphOn a n w) root) (orders-agree (graphOn a n w) root (t .rooted) (keyIn a w′) (keyWith by (graphOn a n w) root) (filled-key by k))
+  pub filled-order : {by : By} {w′ : List ℕ} → Trying a n root by w → Keyed a by w w′ → orderBy (keyIn a w′) (graphOn a n w) root ≡ orderWith by (graphOn a n w) root
+  filled-order {by} {w′} t k =
+      rw (with-key by (graphOn a n w) root)
+      (orders-agree (graphOn a n w) root (t .surveyed .rooted) (keyIn a w′) (keyWith by (graphOn a n w) root)
+      (λ c h. k .keys c (omega (arith, reached-low (graphOn a n w) root c h, t .surveyed .inside, t .surveyed .graph .tidy .nodes)) ∙ words-key by t c h))

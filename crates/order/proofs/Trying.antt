@@ -4,12 +4,10 @@ use Prim.Native.Nat.{ℕ, _<_}
 use mathlib.Core.List.{List}
 use native.Mathlib.Omega.{arith}
 use lib.ListN.{length}
-use Rattle.regions.specs.Region.{Filling, Copying}
 use Rattle.regions.proofs.Laws.{region-length}
 use Rattle.regions.proofs.Frame.{kept-then, kept-less, kept-above}
 use Rattle.model.specs.Bag.{count}
 use Rattle.model.specs.Graph.{Graph}
-use Rattle.work.specs.Areas.{Apart}
 use Rattle.work.specs.Views.{orderIn, placesIn, incomingIn, keyIn}
 use Rattle.work.specs.declared.Areas.{Areas}
 use Rattle.order_graph.specs.Graph.{graphIn, graphOn}
@@ -18,26 +16,19 @@ use Rattle.order_survey.specs.Survey.{Surveyed}
 use Rattle.order_place.specs.Run.{Starting, OrderFound}
 use Rattle.order_fit.specs.Fit.{placesFrom, look, Placing, PlacedAt}
 use Rattle.order_fit.specs.declared.Look.{Look}
-use Rattle.order.specs.Try.{Keyed, orderWith, Tried}
+use Rattle.order.specs.Try.{orderWith, Trying, Keyed, Tried}
 use Rattle.order.specs.declared.By.{By}
-use Rattle.order.specs.declared.By.the-variants as By
 use Rattle.order.proofs.Counted.{run-order}
 use Rattle.order.proofs.Orders.{with-once, with-closed, with-low, filled-order}
 use Rattle.order.proofs.Placed.{places-placed}
 use Rattle.order.proofs.Looked.{look-unfit}
 
--- ---- the keys
-
-module _ {a : Areas} {by : By} {w w′ : List ℕ} (s : Apart a) where
-  pub keys-zero : by ≡ By.Readiness → Filling (a .keys) (a .nodes) 0 (a .nodes) w w′ → Keyed a by w w′
-  keys-zero e f = rw e record { kept = kept-less (f .kept) (a .keys) (a .waiting) (omega arith) (omega arith); keys = f .done }
-
-  pub keys-distances : by ≡ By.Distance → Copying (a .distances) (a .keys) (a .nodes) (a .nodes) w w′ → Keyed a by w w′
-  keys-distances e f = rw e record { kept = kept-less (f .kept) (a .keys) (a .waiting) (omega arith) (omega arith); keys = f .done }
-
 -- ---- the order by them
 
-module _ {a : Areas} {n root : ℕ} {by : By} {w w₁ : List ℕ} (t : Surveyed a n root w) (k : Keyed a by w w₁) where
+module _ {a : Areas} {n root : ℕ} {by : By} {w w₁ : List ℕ} (q : Trying a n root by w) (k : Keyed a by w w₁) where
+  abbrev t : Surveyed a n root w
+  t = q .surveyed
+
   abbrev g : Graph
   g = graphOn a n w
 
@@ -65,7 +56,7 @@ module _ {a : Areas} {n root : ℕ} {by : By} {w w₁ : List ℕ} (t : Surveyed 
     order₂ : orderIn a r w₂ ≡ orderWith by g root
     order₂ =
         o .order
-        ∙ rw (graph₁, incoming-same, run-order g root (t .rooted) (keyIn a w₁) (a .nodes) (incomingIn a w) (omega arith) (t .incoming)) (filled-order t k)
+        ∙ rw (graph₁, incoming-same, run-order g root (t .rooted) (keyIn a w₁) (a .nodes) (incomingIn a w) (omega arith) (t .incoming)) (filled-order q k)
 
     -- ---- its places, and the first link that does not fit
 

@@ -124,7 +124,7 @@ module _ {a : Areas} {n r : ℕ} {w₀ : List ℕ} (s : Along a n r w₀) where
 
     pub follows-all : r ≤ t → LoweredAlong a n r w₀ w
     unfolding relaxAll
-    follows-all h = record { kept = f .kept; distances = sym (f .left ∙ rw (line-done s h, relaxAll)) }
+    follows-all h = record { kept = f .kept; distances = sym (f .left ∙ rw (line-done s h, relaxAll)); near = f .near }
 
 -- ---- the start: the root's distance is 0, and every other is beyond any
 
@@ -152,4 +152,5 @@ module _ {a : Areas} {n root r : ℕ} {w w₁ : List ℕ} (s : Along a n r w) (h
       record {
         kept = kept-then kept-begun (u .kept);
         distances = u .distances ∙ rw (distances-begun, kept-below kept-begun (a .line) r (omega arith), front-kept (s .graph) kept-begun (omega arith));
+        near = u .near;
       }

@@ -93,6 +93,7 @@ module _ {a : Areas} {n root r : ℕ} {w w₁ : List ℕ} (s : AtNode a n root w
             rooted = rw front (reached-rooted graph root y);
             incoming = λ c. rw front (incoming c);
             distances = λ c k. rw front (distances c (rw front at k));
+            near = d .near;
           };
           size = e ∙ rw (front, kept-below (d .kept) (a .line) r (omega arith), line);
         }
@@ -111,4 +112,5 @@ surveyed-kept {a} s k =
       rooted = rw front (s .rooted);
       incoming = λ c. rw (front, same-incoming) (s .incoming c);
       distances = λ c h. rw (front, same-distances) (s .distances c (rw front at h));
+      near = rw same-distances (s .near);
     }

@@ -1,5 +1,5 @@
 -- What the test of a graph's words tells, and that the graph stands where they are loaded.
-use mathlib.Core.Path.{_≡_, refl}
+use mathlib.Core.Path.{_≡_, refl, _∙_}
 use Prim.Native.Nat.{ℕ, zero, suc, _+_, _-_, _*_, _^_, _≤_, _<_}
 use mathlib.Core.List.{List, _++_}
 use mathlib.Core.Bool.{Bool, true, false, _&&_}
@@ -8,6 +8,7 @@ use lib.ListN.{length, getD, take, length-append}
 use lib.Dec.{eqb, ltb, leb}
 use borrow.Author.Tests.{ltb-true, leb-true, eqb-true, eqb-false}
 use Rattle.lists.proofs.Same.{and-left, and-right}
+use Rattle.regions.proofs.Frame.{kept-less}
 use Rattle.model.specs.Object.{widthOk}
 use Rattle.model.specs.Words.{linkWords}
 use Rattle.model.specs.Graph.{Ranked, Acyclic}
@@ -15,13 +16,16 @@ use Rattle.model.proofs.Distances.{kid-link}
 use Rattle.work.specs.Areas.{areasOf, workNeed, graphWords, areas-apart}
 use Rattle.work.specs.declared.Areas.{Areas}
 use Rattle.order_graph.specs.Graph.{graphIn, linkOf, linksAt, linkCount, mostNodes, mostNodeLinks, mostSize, Tidy}
-use Rattle.order_graph.proofs.Links.{stands-kept}
+use Rattle.order_graph.proofs.Links.{front-kept, stands-kept}
+use Rattle.order_survey.specs.Survey.{Surveyed}
 use Rattle.order_survey.proofs.Distances.{node-links}
+use Rattle.order_survey.proofs.Surveys.{surveyed-kept}
 use Rattle.order_fit.specs.Fit.{Placing}
 use Rattle.order_fit.specs.declared.Look.{Look}
-use Rattle.order.specs.Try.{Tried}
+use Rattle.order.specs.Try.{Trying, Tried, SpacesFound}
 use Rattle.order.specs.declared.By.{By}
-use Rattle.orders.specs.Given.{space, allBelow, tidyLink, tidyNode, given, Loaded, Stood, Ready}
+use Rattle.order.specs.declared.By.the-variants as By
+use Rattle.orders.specs.Given.{space, allBelow, tidyLink, tidyNode, given, Loaded, Stood, Shown}
 
 -- what is tested of all numbers below n holds of each
 below-at : (n : ℕ) (test : ℕ → Bool) → allBelow n test ≡ true → (i : ℕ) → i < n → test i ≡ true
@@ -117,5 +121,23 @@ loaded-stood {p} {k} {a} {x} {y} {w} {w₁} {w₂} s e h l m =
     })
 
 -- an order tried leaves its nodes and places behind the graph
-pub tried-placing : {a : Areas} {by : By} {r : ℕ} {x : Look} {w w′ : List ℕ} → Ready a w → Tried a (a .nodes) (a .nodes - 1) by r x w w′ → Placing a (a .nodes) r w′
-tried-placing s t = record { graph = stands-kept (s .graph) (t .kept) (omega arith); nodes = t .nodes }
+module _ {a : Areas} {by : By} {r : ℕ} {x : Look} {w w′ : List ℕ} (s : Trying a (a .nodes) (a .nodes - 1) by w) (t : Tried a (a .nodes) (a .nodes - 1) by r x w w′) where
+  pub tried-placing : Placing a (a .nodes) r w′
+  tried-placing = record { graph = stands-kept (s .surveyed .graph) (t .kept) (omega arith); nodes = t .nodes }
+
+  pub tried-shown : Shown a by r w′
+  tried-shown =
+      record {
+        surveyed = surveyed-kept (s .surveyed) (t .kept);
+        nodes = t .nodes;
+        order = t .order ∙ rw (front-kept (s .surveyed .graph) (t .kept) (omega arith));
+      }
+
+-- the spaces found leave the survey
+pub found-trying : {a : Areas} {w w′ : List ℕ} → Surveyed a (a .nodes) (a .nodes - 1) w → SpacesFound a (a .nodes) (a .nodes - 1) w w′
+    → Trying a (a .nodes) (a .nodes - 1) By.Space w′
+found-trying {a} s f =
+    record {
+      surveyed = surveyed-kept s (kept-less (f .kept) (a .keys) (a .incoming) (omega arith) (omega (arith, s .graph .apart)));
+      asked = f .numbered;
+    }

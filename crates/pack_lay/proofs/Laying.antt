@@ -6,11 +6,11 @@ use native.Mathlib.Omega.{arith}
 use lib.ListN.{getD}
 use Rattle.lists.specs.Lists.{over}
 use Rattle.lists.proofs.Runs.{over-none}
-use Rattle.regions.proofs.Frame.{kept-then}
+use Rattle.regions.specs.Region.{Kept}
+use Rattle.regions.proofs.Frame.{kept-then, kept-less}
 use Rattle.answer.specs.declared.Overflow.{Overflow}
 use Rattle.model.specs.Bag.{count}
 use Rattle.model.specs.Graph.{Graph, graphOf, reached, Ranked, Rooted}
-use Rattle.model.specs.Distance.{kahnOrder, distanceOrder}
 use Rattle.model.specs.Table.{placeOf, unfit, Outcome, placed, overflow, tryOrder, tryLast, firstFit, arranged, tableLength}
 use Rattle.model.specs.Session.{tableIn}
 use Rattle.model.proofs.Bags.{total-bag}
@@ -21,13 +21,13 @@ use Rattle.work.specs.declared.Areas.{Areas}
 use Rattle.order_survey.proofs.Surveys.{surveyed-kept}
 use Rattle.order_fit.specs.declared.Look.{Look}
 use Rattle.order_fit.specs.declared.Look.the-variants.{Fits, Over}
-use Rattle.order.specs.Try.{Tried, lookOf, orderWith}
+use Rattle.order.specs.Try.{orderWith, lookOf, DistanceOrder, SpacesFound, Tried}
 use Rattle.order.specs.declared.By.{By}
 use Rattle.order.specs.declared.By.the-variants as By
 use Rattle.order.proofs.Orders.{with-counts, with-once, with-closed}
 use Rattle.pack_copy.proofs.Standing.{standing-kept}
 use Rattle.pack_write.specs.Write.{Writing, tableFor}
-use Rattle.pack_lay.specs.Lay.{Laying, Laid, lookIn, oneOrder}
+use Rattle.pack_lay.specs.Lay.{Laying, Laid, LaidOrder, lookIn, oneOrder, laterOrder}
 
 -- ---- an outcome by what the look at it tells
 
@@ -47,15 +47,23 @@ last-placed o [] e = refl
 last-placed o (u ∷ us) e = absurd (let q : _≡_ {A = ℕ} 0 1 = cc in omega arith)
 
 -- the next order is tried exactly where some link does not fit
-first-kept : (o : List ℕ) (us : List Overflow) (x : Outcome) → lookIn (tryLast us o) ≡ Fits → tryOrder us o x ≡ tryLast us o
-unfolding tryLast tryOrder
-first-kept o [] x e = refl
-first-kept o (u ∷ us) x e = absurd (let q : _≡_ {A = ℕ} 0 1 = cc in omega arith)
+module _ (g : Graph) (o : List ℕ) where
+  first-kept : (ps : List (List ℕ)) → lookIn (firstFit g o []) ≡ Fits → firstFit g o ps ≡ firstFit g o []
+  unfolding firstFit tryLast tryOrder
+  first-kept [] e = refl
+  first-kept (p ∷ ps) e = go (unfit g o) e
+    where
+      go : (us : List Overflow) → lookIn (tryLast us o) ≡ Fits → tryOrder us o (firstFit g p ps) ≡ tryLast us o
+      go [] f = refl
+      go (u ∷ us) f = absurd (let q : _≡_ {A = ℕ} 0 1 = cc in omega arith)
 
-next-tried : (o : List ℕ) (us : List Overflow) (x : Outcome) {u : Overflow} → lookIn (tryLast us o) ≡ Over u → tryOrder us o x ≡ x
-unfolding tryLast tryOrder
-next-tried o [] x e = absurd (let q : _≡_ {A = ℕ} 0 1 = cc in omega arith)
-next-tried o (u ∷ us) x e = refl
+  next-tried : (p : List ℕ) (ps : List (List ℕ)) {u : Overflow} → lookIn (firstFit g o []) ≡ Over u → firstFit g o (p ∷ ps) ≡ firstFit g p ps
+  unfolding firstFit tryLast tryOrder
+  next-tried p ps {u} e = go (unfit g o) e
+    where
+      go : (us : List Overflow) → lookIn (tryLast us o) ≡ Over u → tryOrder us o (firstFit g p ps) ≡ firstFit g p ps
+      go [] f = absurd (let q : _≡_ {A = ℕ} 0 1 = cc in omega arith)
+      go (v ∷ us) f = refl
 
 -- ---- one order
 
@@ -96,38 +104,85 @@ module _ {b w : List ℕ} {s : State} {a : Areas} {root room : ℕ} {m : List �
     unfolding firstFit
     lay-told = look-is ∙ last-told (orderWith by g root) _
 
-    pub lay-over : {u : Overflow} (out : List ℕ) → x ≡ Over u → Laid b w a (oneOrder b w root by) x out out m m′
-    lay-over out e = record { kept = t .kept; told = lay-told; written = unwritten b w out (oneOrder b w root by) (sym lay-told ∙ e) }
+    told-over : {u : Overflow} (out : List ℕ) → x ≡ Over u → Laid b w a (oneOrder b w root by) x out out m m′
+    told-over out e = record { kept = t .kept; told = lay-told; written = unwritten b w out (oneOrder b w root by) (sym lay-told ∙ e) }
 
-    pub lay-fits : {out out′ : List ℕ} → x ≡ Fits → out′ ≡ over 0 (tableFor b w (orderIn a r m′)) out → Laid b w a (oneOrder b w root by) Fits out out′ m m′
+    pub lay-over : {u : Overflow} (out : List ℕ) → x ≡ Over u → LaidOrder b w s a root by r x out out m m′
+    lay-over out e = record { laid = told-over out e; nodes = t .nodes; order = order-is }
+
+    pub lay-fits : {out out′ : List ℕ} → x ≡ Fits → out′ ≡ over 0 (tableFor b w (orderIn a r m′)) out → LaidOrder b w s a root by r x out out′ m m′
     unfolding firstFit
-    lay-fits {out} e q = record {
-      kept = t .kept;
-      told = sym e ∙ lay-told;
-      written = q ∙ rw (order-is, last-placed (orderWith by g root) _ (sym look-is ∙ e));
+    lay-fits {out} e q =
+        record {
+          laid = record { kept = t .kept; told = lay-told; written = q ∙ rw (order-is, last-placed (orderWith by g root) _ (sym look-is ∙ e)) };
+          nodes = t .nodes;
+          order = order-is;
+        }
+
+  -- ---- one order after the other
+
+  module _ {by : By} {r : ℕ} {x : Look} {out out′ m′ : List ℕ} (l : LaidOrder b w s a root by r x out out′ m m′) where
+    -- those after one that fits are not tried
+    laid-first : (ps : List (List ℕ)) → x ≡ Fits → Laid b w a (firstFit g (orderWith by g root) ps) x out out′ m m′
+    laid-first ps e = rw (first-kept g (orderWith by g root) ps (sym (l .laid .told) ∙ e)) (l .laid)
+
+    pub laid-laying : {n : ℕ} → room ≡ n → Laying b w s a root n m′
+    laid-laying k = record {
+      read = c .read;
+      stands = standing-kept (c .stands) (l .laid .kept) (omega arith);
+      surveyed = surveyed-kept (c .surveyed) (l .laid .kept);
+      fits = omega (arith, c .fits);
     }
 
-  -- ---- both
+    -- one that does not gives way
+    laid-next : {u : Overflow} (p : List ℕ) (ps : List (List ℕ)) {x′ : Look} {out″ m″ : List ℕ} → x ≡ Over u → Laid b w a (firstFit g p ps) x′ out′ out″ m′ m″
+        → Laid b w a (firstFit g (orderWith by g root) (p ∷ ps)) x′ out out″ m m″
+    laid-next p ps e q =
+        let stands : out′ ≡ out = l .laid .written ∙ sym (unwritten b w out (oneOrder b w root by) (sym (l .laid .told) ∙ e)) in
+        rw (next-tried g (orderWith by g root) p ps (sym (l .laid .told) ∙ e))
+        (record { kept = kept-then (l .laid .kept) (q .kept); told = q .told; written = q .written ∙ rw stands })
 
-  module _ {x : Look} {out out′ m′ : List ℕ} (l : Laid b w a (oneOrder b w root By.Readiness) x out out′ m m′) where
-    pub first-fits : x ≡ Fits → Laid b w a (arranged g root) x out out′ m m′
-    unfolding arranged firstFit
-    first-fits e = rw (first-kept (kahnOrder g root) (unfit g (kahnOrder g root)) (firstFit g (distanceOrder g root) []) (sym (l .told) ∙ e)) l
+-- ---- the spaces found between
 
-    module _ {u : Overflow} (e : x ≡ Over u) where
-      stands : out′ ≡ out
-      stands = l .written ∙ sym (unwritten b w out (oneOrder b w root By.Readiness) (sym (l .told) ∙ e))
+module _ {b w : List ℕ} {s : State} {a : Areas} {root room : ℕ} {m : List ℕ} (c : Laying b w s a root room m) where
+  module _ {r : ℕ} {x : Look} {out out′ m′ : List ℕ} (l : LaidOrder b w s a root By.Distance r x out out′ m m′) where
+    pub distance-order : DistanceOrder a (s .closed) root r m′
+    distance-order =
+        let d = laid-laying c l refl in
+        record { surveyed = d .surveyed; nodes = l .nodes; order = l .order ∙ rw (d .stands .same) }
 
-      pub second-laying : {n : ℕ} → room ≡ n → Laying b w s a root n m′
-      second-laying k = record {
-        read = c .read;
-        stands = standing-kept (c .stands) (l .kept) (omega arith);
-        surveyed = surveyed-kept (c .surveyed) (l .kept);
-        fits = omega (arith, c .fits);
-      }
+  module _ {m₁ : List ℕ} (f : SpacesFound a (s .closed) root m m₁) where
+    found-kept : Kept (a .keys) (a .incoming) m m₁
+    found-kept = kept-less (f .kept) (a .keys) (a .incoming) (omega arith) (omega (arith, c .stands .graph .apart))
 
-      pub second-laid : {x′ : Look} {out″ m″ : List ℕ} → Laid b w a (oneOrder b w root By.Distance) x′ out′ out″ m′ m″ → Laid b w a (arranged g root) x′ out out″ m m″
-      unfolding arranged firstFit
-      second-laid q =
-          rw (next-tried (kahnOrder g root) (unfit g (kahnOrder g root)) (firstFit g (distanceOrder g root) []) (sym (l .told) ∙ e))
-          (record { kept = kept-then (l .kept) (q .kept); told = q .told; written = q .written ∙ rw stands })
+    pub found-laying : {n : ℕ} → room ≡ n → Laying b w s a root n m₁
+    found-laying k = record {
+      read = c .read;
+      stands = standing-kept (c .stands) found-kept (omega arith);
+      surveyed = surveyed-kept (c .surveyed) found-kept;
+      fits = omega (arith, c .fits);
+    }
+
+    found-laid : {u : Outcome} {x : Look} {out out′ m′ : List ℕ} → Laid b w a u x out out′ m₁ m′ → Laid b w a u x out out′ m m′
+    found-laid l = record { kept = kept-then found-kept (l .kept); told = l .told; written = l .written }
+
+-- ---- the whole
+
+module _ {b w : List ℕ} {s : State} {a : Areas} {root room : ℕ} {m : List ℕ} (c : Laying b w s a root room m) where
+  module _ {r : ℕ} {x : Look} {out out′ m′ : List ℕ} (l : LaidOrder b w s a root By.Distance r x out out′ m m′) where
+    pub later-first : x ≡ Fits → Laid b w a (laterOrder b w root) x out out′ m m′
+    later-first e = laid-first c l _ e
+
+    pub later-last : {u : Overflow} {r′ : ℕ} {x′ : Look} {out″ m₁ m″ : List ℕ} → x ≡ Over u → SpacesFound a (s .closed) root m′ m₁
+        → LaidOrder b w s a root By.Space r′ x′ out′ out″ m₁ m″ → Laid b w a (laterOrder b w root) x′ out out″ m m″
+    later-last e f q = laid-next c l _ _ e (found-laid (laid-laying c l refl) f (q .laid))
+
+  module _ {r : ℕ} {x : Look} {out out′ m′ : List ℕ} (l : LaidOrder b w s a root By.Readiness r x out out′ m m′) where
+    pub arranged-first : x ≡ Fits → Laid b w a (arranged (graphOf (decode b w .closed)) root) x out out′ m m′
+    unfolding arranged
+    arranged-first e = laid-first c l _ e
+
+    pub arranged-later : {u : Overflow} {x′ : Look} {out″ m″ : List ℕ} → x ≡ Over u → Laid b w a (laterOrder b w root) x′ out′ out″ m′ m″
+        → Laid b w a (arranged (graphOf (decode b w .closed)) root) x′ out out″ m m″
+    unfolding arranged
+    arranged-later e q = laid-next c l _ _ e q

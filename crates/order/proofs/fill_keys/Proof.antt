@@ -1,5 +1,5 @@
--- `fill_keys` meets its contract: one area filled or copied.
-use Rattle.order.proofs.Trying.{keys-zero, keys-distances}
+use Rattle.order.proofs.Keys.{keys-zero, keys-distances, keying-spaces, keys-spaces}
+-- `fill_keys` meets its contract: one area filled, copied, or weighed.
 use borrow.Author.Needs.{needs}
 use Rattle.order.proofs.fill_keys.Statement.{statement}
 use Rattle.order.proofs.fill_keys.Tie as tie
@@ -7,40 +7,62 @@ use Rattle.order.proofs.fill_keys.Tie as tie
 enum-told : tie.Need-enum-told
 enum-told c = search needs
 
+fill-requires : tie.Need-fill-requires
+fill-requires c κs = search needs
+
 enum-told-2 : tie.Need-enum-told-2
 enum-told-2 c = search needs
 
-fill-requires : tie.Need-fill-requires
-fill-requires c κs = search needs
+copy-requires : tie.Need-copy-requires
+copy-requires c κs = search needs
+
+enum-told-3 : tie.Need-enum-told-3
+enum-told-3 c = search needs
+
+weigh-spaces-requires : tie.Need-weigh-spaces-requires
+weigh-spaces-requires c κs =
+    let pre = c .before .before .before .before .pre in
+    keying-spaces pre ((c .before .enum-told3) .given .1)
 
 same-length : tie.Need-same-length
 same-length c = search needs
 
 returns : tie.Need-returns
 returns c =
-    let at-fill = c .before .before in
-    keys-zero (c .before .before .before .before .before .before .before .pre .0) (at-fill .before .before .enum-told2 .given .1) (at-fill .fill .ensures)
-
-copy-requires : tie.Need-copy-requires
-copy-requires c κs = search needs
+    let pre = c .before .before .before .before .before .before .before .pre in
+    let fill = c .before .before .fill .ensures in
+    keys-zero (pre .apart) ((c .before .before .before .before .enum-told) .given .1) fill
 
 same-length-2 : tie.Need-same-length-2
 same-length-2 c = search needs
 
 returns-2 : tie.Need-returns-2
 returns-2 c =
-    let at-copy = c .before .before in
-    keys-distances (c .before .before .before .before .before .before .before .pre .0) (at-copy .before .before .enum-told .given .1) (at-copy .copy .ensures)
+    let pre = c .before .before .before .before .before .before .before .pre in
+    let copy = c .before .before .copy .ensures in
+    keys-distances (pre .apart) ((c .before .before .before .before .enum-told2) .given .1) copy
+
+same-length-3 : tie.Need-same-length-3
+same-length-3 c = search needs
+
+returns-3 : tie.Need-returns-3
+returns-3 c =
+    let weigh-spaces = c .before .before .weigh-spaces .ensures in
+    keys-spaces ((c .before .before .before .before .enum-told3) .given .1) weigh-spaces
 
 pub fill-keys-spec : {M : Type 1} → statement M
 fill-keys-spec =
     tie.close
     (tie.spec
     enum-told
-    enum-told-2
     fill-requires
+    enum-told-2
+    copy-requires
+    enum-told-3
+    weigh-spaces-requires
     same-length
     returns
-    copy-requires
     same-length-2
-    returns-2)
+    returns-2
+    same-length-3
+    returns-3)

@@ -1,11 +1,12 @@
 -- `try_order` meets its contract: the order by its keys, its places, the first link that does not fit.
+use Rattle.order.proofs.Keys.{trying-keys}
 use Rattle.order.proofs.Trying.{try-starting, try-placing, try-look, try-all}
 use borrow.Author.Needs.{needs}
 use Rattle.order.proofs.try_order.Statement.{statement}
 use Rattle.order.proofs.try_order.Tie as tie
 
 fill-keys-requires : tie.Need-fill-keys-requires
-fill-keys-requires c κs = search needs
+fill-keys-requires c κs = trying-keys (c .before .before .pre)
 
 place-all-requires : tie.Need-place-all-requires
 place-all-requires c κs = let at-keys = c .before .before .before in try-starting (at-keys .before .before .before .pre) (at-keys .fill-keys .ensures)

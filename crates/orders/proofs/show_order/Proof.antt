@@ -1,6 +1,5 @@
+use Rattle.orders.proofs.Given.{tried-placing, tried-shown}
 -- `show_order` meets its contract: an order leaves the graph and its survey as they are.
-use Rattle.order_survey.proofs.Surveys.{surveyed-kept}
-use Rattle.orders.proofs.Given.{tried-placing}
 use borrow.Author.Needs.{needs}
 use Rattle.orders.proofs.show_order.Statement.{statement}
 use Rattle.orders.proofs.show_order.Tie as tie
@@ -12,7 +11,10 @@ try-order-requires : tie.Need-try-order-requires
 try-order-requires c κs = search needs
 
 print-order-requires : tie.Need-print-order-requires
-print-order-requires c κs = let at-try = c .before .before .before in tried-placing (at-try .before .before .before .before .pre) (at-try .try-order .ensures)
+print-order-requires c κs =
+    let pre = c .before .before .before .before .before .before .before .pre in
+    let try-order = c .before .before .before .try-order .ensures in
+    tried-placing pre try-order
 
 print-look-requires : tie.Need-print-look-requires
 print-look-requires c κs = search needs
@@ -21,7 +23,10 @@ same-length : tie.Need-same-length
 same-length c = search needs
 
 returns : tie.Need-returns
-returns c = let at-try = c .before .before .before .before .before in surveyed-kept (at-try .before .before .before .before .pre) (at-try .try-order .ensures .kept)
+returns c =
+    let pre = c .before .before .before .before .before .before .before .before .before .pre in
+    let try-order = c .before .before .before .before .before .try-order .ensures in
+    tried-shown pre try-order
 
 pub show-order-spec : {M : Type 1} → statement M
 show-order-spec =

@@ -1,11 +1,11 @@
--- `lay_first_fit` meets its contract: the distance order is tried exactly where the plain one does not fit.
-use Rattle.pack_lay.proofs.Laying.{first-fits, second-laying, second-laid}
+use Rattle.pack_lay.proofs.Laying.{laid-laying, arranged-first, arranged-later}
+-- `lay_first_fit` meets its contract: later orders are tried exactly where the plain one does not fit.
 use borrow.Author.Needs.{needs}
 use Rattle.pack_lay.proofs.lay_first_fit.Statement.{statement}
 use Rattle.pack_lay.proofs.lay_first_fit.Tie as tie
 
 lay-order-requires : tie.Need-lay-order-requires
-lay-order-requires c κs = c .before .before .before .before .before .before .pre
+lay-order-requires c κs = search needs
 
 enum-told : tie.Need-enum-told
 enum-told c = search needs
@@ -21,14 +21,15 @@ same-length-2 c = search needs
 
 returns : tie.Need-returns
 returns c =
-    let at-first = c .before .before .before .before .before .before in
-    first-fits (at-first .before .before .before .before .before .before .before .pre) (at-first .lay-order .ensures) (c .enum-told2 .given .1)
+    let pre = c .before .before .before .before .before .before .before .before .before .before .before .before .before .pre in
+    let lay-order = c .before .before .before .before .before .before .lay-order .ensures in
+    arranged-first pre lay-order ((c .enum-told2) .given .1)
 
-lay-order-requires-2 : tie.Need-lay-order-requires-2
-lay-order-requires-2 c κs =
-    let at-over = c .before .before in
-    let at-first = at-over .before .before .before .before .before .before in
-    second-laying (at-first .before .before .before .before .before .before .before .pre) (at-first .lay-order .ensures) (at-over .enum-told .given .1) (search needs)
+lay-later-requires : tie.Need-lay-later-requires
+lay-later-requires c κs =
+    let pre = c .before .before .before .before .before .before .before .before .before .before .before .before .before .before .before .pre in
+    let lay-order = c .before .before .before .before .before .before .before .before .lay-order .ensures in
+    laid-laying pre lay-order (search needs)
 
 same-length-3 : tie.Need-same-length-3
 same-length-3 c = search needs
@@ -38,9 +39,10 @@ same-length-4 c = search needs
 
 returns-2 : tie.Need-returns-2
 returns-2 c =
-    let at-over = c .before .before .before .before .before .before .before in
-    let at-first = at-over .before .before .before .before .before .before in
-    second-laid (at-first .before .before .before .before .before .before .before .pre) (at-first .lay-order .ensures) (at-over .enum-told .given .1) (c .before .before .before .before .lay-order2 .ensures)
+    let pre = c .before .before .before .before .before .before .before .before .before .before .before .before .before .before .before .before .before .before .before .before .pre in
+    let lay-order = c .before .before .before .before .before .before .before .before .before .before .before .before .before .lay-order .ensures in
+    let lay-later = c .before .before .before .before .lay-later .ensures in
+    arranged-later pre lay-order ((c .before .before .before .before .before .before .before .enum-told) .given .1) lay-later
 
 pub lay-first-fit-spec : {M : Type 1} → statement M
 lay-first-fit-spec =
@@ -52,7 +54,7 @@ lay-first-fit-spec =
     same-length
     same-length-2
     returns
-    lay-order-requires-2
+    lay-later-requires
     same-length-3
     same-length-4
     returns-2)

@@ -1,0 +1,107 @@
+-- The keys filled: with zeros, with the distances, and one by one with the distances and what the spaces weigh.
+use mathlib.Core.Path.{_≡_, refl, ap, _∙_}
+use Prim.Native.Nat.{ℕ, _+_, _*_, _≤_, _<_}
+use mathlib.Core.List.{List}
+use native.Mathlib.Omega.{arith}
+use lib.ListN.{getD, set, getD-replicate}
+use lib.Seq.{getD-set-same, getD-set-other}
+use Rattle.regions.specs.Region.{ceiling, Kept, Filling, Copying}
+use Rattle.regions.proofs.Laws.{region-length, region-at, region-in}
+use Rattle.regions.proofs.Bounds.{ceiling-at}
+use Rattle.regions.proofs.Frame.{kept-all, kept-then, kept-set, kept-less, kept-above}
+use Rattle.model.specs.Space.{spaceWeight}
+use Rattle.model.proofs.Bags.{Same, same, other, sameOr}
+use Rattle.work.specs.Areas.{Apart}
+use Rattle.work.specs.Views.{keysIn, keyIn, distancesIn, spacesIn}
+use Rattle.work.specs.declared.Areas.{Areas}
+use Rattle.order_graph.specs.Graph.{mostNodes}
+use Rattle.order_survey.specs.Survey.{farAway}
+use Rattle.order.specs.Try.{keyBy, Trying, Keying, Keyed}
+use Rattle.order.specs.declared.By.{By}
+use Rattle.order.specs.declared.By.the-variants as By
+
+asked-small : {a : Areas} {n root : ℕ} {w : List ℕ} (by : By) → Trying a n root by w → by ≡ By.Space → ceiling (spacesIn a w) ≤ mostNodes
+asked-small By.Readiness t e = absurd (let z : _≡_ {A = ℕ} 0 1 = cc in omega arith)
+asked-small By.Distance t e = absurd (let z : _≡_ {A = ℕ} 0 1 = cc in omega arith)
+asked-small By.Space t e = t .asked .small
+
+pub trying-keys : {a : Areas} {n root : ℕ} {by : By} {w : List ℕ} → Trying a n root by w → Keying a by w
+trying-keys {by = by} t =
+    record {
+      apart = t .surveyed .graph .apart;
+      long = t .surveyed .graph .long;
+      near = t .surveyed .near;
+      small = asked-small by t;
+    }
+
+module _ {a : Areas} {by : By} {w w′ : List ℕ} (s : Apart a) where
+  pub keys-zero : by ≡ By.Readiness → Filling (a .keys) (a .nodes) 0 (a .nodes) w w′ → Keyed a by w w′
+  keys-zero e f = rw e record {
+    kept = kept-less (f .kept) (a .keys) (a .waiting) (omega arith) (omega arith);
+    keys = λ i h. rw (f .done) (getD-replicate (a .nodes) i 0 0 h);
+  }
+
+  pub keys-distances : by ≡ By.Distance → Copying (a .distances) (a .keys) (a .nodes) (a .nodes) w w′ → Keyed a by w w′
+  keys-distances e f = rw e record {
+    kept = kept-less (f .kept) (a .keys) (a .waiting) (omega arith) (omega arith);
+    keys = λ i h. rw (f .done);
+  }
+
+pub keying-spaces : {a : Areas} {by : By} {w : List ℕ} → Keying a by w → by ≡ By.Space → Keying a By.Space w
+keying-spaces s e = rw e at s
+
+pub keys-spaces : {a : Areas} {by : By} {w w′ : List ℕ} → by ≡ By.Space → Keyed a By.Space w w′ → Keyed a by w w′
+keys-spaces e k = rw e k
+
+-- ---- i nodes have their keys
+
+pub record Weighs (a : Areas) (i : ℕ) (w₀ w : List ℕ) : Type 0 where
+  pub some : i ≤ a .nodes
+  pub kept : Kept (a .keys) (a .waiting) w₀ w
+  pub done : (j : ℕ) → j < i → keyIn a w j ≡ keyBy By.Space a w₀ j
+
+pub weighs-none : (a : Areas) (w : List ℕ) → Weighs a 0 w w
+weighs-none a w = record { some = omega arith; kept = kept-all; done = λ j h. absurd (omega arith) }
+
+module _ {a : Areas} {i : ℕ} {w₀ w : List ℕ} (s : Keying a By.Space w₀) (f : Weighs a i w₀ w) where
+  module _ (h : i < a .nodes) where
+    distance-is : getD w (a .distances + i) 0 ≡ getD (distancesIn a w₀) i 0
+    distance-is =
+        region-at (a .distances) (a .nodes) w i h
+        ∙ ap (λ (l : List ℕ). getD l i 0) (kept-above (f .kept) (a .distances) (a .nodes) (omega (arith, s .apart)))
+
+    space-is : getD w (a .spaces + i) 0 ≡ getD (spacesIn a w₀) i 0
+    space-is =
+        region-at (a .spaces) (a .nodes) w i h
+        ∙ ap (λ (l : List ℕ). getD l i 0) (kept-above (f .kept) (a .spaces) (a .nodes) (omega (arith, s .apart)))
+
+    -- no sum wraps
+    pub weighs-near : getD w (a .distances + i) 0 ≤ farAway
+    weighs-near =
+        let long = region-length (a .distances) (a .nodes) w₀ (omega (arith, s .apart, s .long)) in
+        omega (arith, distance-is, s .near, ceiling-at (distancesIn a w₀) i (omega (arith, long)))
+
+    pub weighs-small : getD w (a .spaces + i) 0 < mostNodes
+    weighs-small =
+        let long = region-length (a .spaces) (a .nodes) w₀ (omega (arith, s .apart, s .long)) in
+        omega (arith, space-is, s .small refl, ceiling-at (spacesIn a w₀) i (omega (arith, long)))
+
+    abbrev key : ℕ
+    key = getD w (a .distances + i) 0 + getD w (a .spaces + i) 0 * spaceWeight
+
+    pub weighs-next : Weighs a (i + 1) w₀ (set w (a .keys + i) key)
+    weighs-next =
+        let z = region-in (a .keys) (a .nodes) w i key h in
+        record {
+          some = omega arith;
+          kept = kept-then (f .kept) (kept-set (a .keys) (a .waiting) w (a .keys + i) key (omega arith) (omega (arith, s .apart)));
+          done = λ j k. rw z (go j k (sameOr j i));
+        }
+      where
+        go : (j : ℕ) → j < i + 1 → Same j i → getD (set (keysIn a w) i key) j 0 ≡ keyBy By.Space a w₀ j
+        go j k (same e _ _) =
+            rw e (getD-set-same (keysIn a w) i key 0 (omega (arith, h, region-length (a .keys) (a .nodes) w (omega (arith, s .apart, s .long, f .kept .long)))) ∙ rw (distance-is, space-is))
+        go j k (other d _ _) = getD-set-other (keysIn a w) i j key 0 d ∙ f .done j (omega (arith, d))
+
+  pub weighs-all : a .nodes ≤ i → Keyed a By.Space w₀ w
+  weighs-all h = record { kept = f .kept; keys = λ j k. f .done j (omega arith) }
