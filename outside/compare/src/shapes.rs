@@ -110,7 +110,14 @@ pub enum Family {
     Lattice,
     Near,
     Any,
+    /// Groups that the root links by width 4, with few links between them.
+    Parted,
+    /// Each piece links its leaf and the one before; the root links the pieces.
+    Zigzag,
 }
+
+/// Widths of the root's links, where it parts spaces.
+const PARTING: &[u32] = &[4, 4, 4, 4, 4, 4, 4, 2];
 
 pub const FAMILIES: [Family; 6] = [
     Family::Chain,
@@ -137,19 +144,23 @@ impl Make {
         (0..count)
             .map(|id| {
                 let children = self.children(family, id, count, numbers);
-                self.piece(id, &children, numbers)
+                let widths = match family {
+                    Family::Parted | Family::Zigzag if id + 1 == count => PARTING,
+                    _ => self.widths,
+                };
+                self.piece(id, &children, widths, numbers)
             })
             .collect()
     }
 
-    fn piece(&self, id: usize, children: &[usize], numbers: &mut Numbers) -> Piece {
+    fn piece(&self, id: usize, children: &[usize], widths: &[u32], numbers: &mut Numbers) -> Piece {
         let size = numbers.one_of(self.sizes);
         let mut bytes = (id as u16).to_be_bytes().to_vec();
         bytes.resize(size.max(2), numbers.next() as u8);
         Piece {
             links: children
                 .iter()
-                .map(|&child| Link::any(numbers.one_of(self.widths), child, numbers))
+                .map(|&child| Link::any(numbers.one_of(widths), child, numbers))
                 .collect(),
             bytes,
             links_first: numbers.below(2) == 0,
@@ -177,6 +188,17 @@ impl Make {
             Family::Near => (0..fanout).map(|_| near(id, numbers)).collect(),
             Family::Any => (0..numbers.below(fanout + 1))
                 .map(|_| numbers.below(id))
+                .collect(),
+            Family::Parted if last => shuffled(0..id, numbers)
+                .into_iter()
+                .filter(|child| child % self.fanout == self.fanout - 1)
+                .collect(),
+            Family::Parted => parted(id, self.fanout, numbers),
+            Family::Zigzag if last => (0..id).filter(|child| child % 2 == 1).collect(),
+            Family::Zigzag if id % 2 == 0 => Vec::new(),
+            Family::Zigzag => [id.checked_sub(3), Some(id - 1)]
+                .into_iter()
+                .flatten()
                 .collect(),
         }
     }
@@ -206,6 +228,17 @@ fn lattice(
 /// One of the last pieces before this one.
 fn near(id: usize, numbers: &mut Numbers) -> usize {
     id - 1 - numbers.below(id.min(60))
+}
+
+/// Pieces of the same group, and seldom one of another.
+fn parted(id: usize, group: usize, numbers: &mut Numbers) -> Vec<usize> {
+    let begin = id / group * group;
+    let mut children = shuffled(begin..id, numbers);
+    children.truncate(1 + numbers.below(2));
+    if id > 0 && numbers.below(12) == 0 {
+        children.push(numbers.below(id));
+    }
+    children
 }
 
 fn shuffled(ids: std::ops::Range<usize>, numbers: &mut Numbers) -> Vec<usize> {

@@ -144,5 +144,38 @@ pub fn all() -> Vec<Named> {
                 (4, &[(0, 2, 2), (2, 2, 3)]),
             ],
         ),
+        // three pieces with a leaf each, and the root.
+        named(
+            "spaces by distance",
+            &[
+                (1, &[]),
+                (40_000, &[(0, 2, 0)]),
+                (1, &[]),
+                (30_000, &[(0, 2, 2)]),
+                (1, &[]),
+                (50_000, &[(0, 2, 4)]),
+                (12, &[(0, 4, 5), (4, 4, 1), (8, 4, 3)]),
+            ],
+        ),
+        // a leaf, two pieces linking it, root linking all.
+        named(
+            "child in space 0",
+            &[
+                (10, &[]),
+                (40_000, &[(0, 2, 0)]),
+                (40_000, &[(0, 2, 0)]),
+                (10, &[(0, 2, 0), (2, 4, 1), (6, 4, 2)]),
+            ],
+        ),
+        // a leaf, two pieces linking it, root linking those.
+        named(
+            "shared child",
+            &[
+                (1, &[]),
+                (3, &[(0, 2, 0)]),
+                (2, &[(0, 2, 0)]),
+                (8, &[(0, 4, 2), (4, 4, 1)]),
+            ],
+        ),
     ]
 }

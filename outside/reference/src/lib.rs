@@ -28,6 +28,7 @@ pub mod reader;
 pub mod reading;
 pub mod session;
 pub mod sound;
+pub mod spaces;
 pub mod traps;
 pub mod view;
 

@@ -1,6 +1,7 @@
-//! The two placing orders, the places they give and the first overflow.
+//! The three placing orders, the places they give and the first overflow.
 
 use crate::graph::{Graph, Link};
+use crate::spaces;
 use std::cmp::Reverse;
 use std::collections::{BinaryHeap, VecDeque};
 
@@ -27,12 +28,20 @@ pub fn plain(graph: &Graph, root: usize) -> Placing {
 
 /// Next is the ready piece of least distance, equal ones by longest ready.
 pub fn by_distance(graph: &Graph, root: usize) -> Placing {
-    let queue = DistanceQueue {
-        distances: graph.distances(root),
-        heap: BinaryHeap::new(),
-        turn: 0,
-    };
-    place(graph, order(graph, root, queue))
+    place(
+        graph,
+        order(graph, root, KeyQueue::by(graph.distances(root))),
+    )
+}
+
+/// Next is the ready piece of least distance and 4,294,967,296 for each number
+/// of its space, equal ones by longest ready.
+pub fn by_spaces(graph: &Graph, root: usize) -> Placing {
+    let distances = graph.distances(root);
+    let numbers = spaces::numbers(graph, &by_distance(graph, root).order);
+    let keys = distances.iter().zip(numbers);
+    let keys = keys.map(|(distance, number)| Some((*distance)? + number * 4_294_967_296));
+    place(graph, order(graph, root, KeyQueue::by(keys.collect())))
 }
 
 /// The ready pieces, in the order in which they become ready.
@@ -51,17 +60,27 @@ impl Ready for VecDeque<usize> {
     }
 }
 
-struct DistanceQueue {
-    distances: Vec<Option<u64>>,
-    /// Distance, turn of becoming ready, id.
+struct KeyQueue {
+    keys: Vec<Option<u64>>,
+    /// Key, turn of becoming ready, id.
     heap: BinaryHeap<Reverse<(u64, usize, usize)>>,
     turn: usize,
 }
 
-impl Ready for DistanceQueue {
+impl KeyQueue {
+    fn by(keys: Vec<Option<u64>>) -> KeyQueue {
+        KeyQueue {
+            keys,
+            heap: BinaryHeap::new(),
+            turn: 0,
+        }
+    }
+}
+
+impl Ready for KeyQueue {
     fn add(&mut self, id: usize) {
-        let distance = self.distances[id].expect("a ready piece is reached");
-        self.heap.push(Reverse((distance, self.turn, id)));
+        let key = self.keys[id].expect("a ready piece is reached");
+        self.heap.push(Reverse((key, self.turn, id)));
         self.turn += 1;
     }
 

@@ -39,6 +39,9 @@ fn pack_root(view: &View, root: usize, out: &mut [u8]) -> Answer {
     if placing.overflow(&graph).is_some() {
         placing = orders::by_distance(&graph, root);
     }
+    if placing.overflow(&graph).is_some() {
+        placing = orders::by_spaces(&graph, root);
+    }
     if let Some(overflow) = placing.overflow(&graph) {
         return Answer {
             parent: overflow.parent as u64,

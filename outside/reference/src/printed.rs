@@ -6,7 +6,7 @@ use crate::cases::{hand_counted_cases, Case};
 use crate::graph::Graph;
 use crate::graphs::{self, Named};
 use crate::lines::{self, numbers};
-use crate::orders::{by_distance, plain, Placing};
+use crate::orders::{by_distance, by_spaces, plain, Placing};
 use crate::traps::trap_cases;
 
 /// The stores and the output of `cases` are no longer than this.
@@ -89,10 +89,11 @@ pub fn orders() -> String {
 fn orders_of(named: &Named) -> String {
     let (graph, root) = (&named.graph, named.root);
     format!(
-        "graph {}\n{}{}",
+        "graph {}\n{}{}{}",
         named.name,
         placing_of("kahn", graph, &plain(graph, root)),
-        placing_of("distance", graph, &by_distance(graph, root))
+        placing_of("distance", graph, &by_distance(graph, root)),
+        placing_of("spaces", graph, &by_spaces(graph, root))
     )
 }
 

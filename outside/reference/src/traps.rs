@@ -57,6 +57,8 @@ fn order_cases() -> Vec<Case> {
         lighter_link("lighter link second", &[(4, 1), (2, 1)]),
         lighter_link("lighter link first", &[(2, 1), (4, 1)]),
         different_ready_times(),
+        spaces_by_distance(),
+        child_in_space_0(),
     ]
 }
 
@@ -100,6 +102,28 @@ fn different_ready_times() -> Case {
         .piece(b"bbb", &[(2, 1)])
         .piece(&[], &[(2, 2), (2, 3)])
         .pack(4, 140_000)
+}
+
+/// Three spaces, each of a leaf and a piece with a link to it.
+fn spaces_by_distance() -> Case {
+    let pair = |case: Case, name: &[u8], leaf, size: usize| {
+        let case = case.piece(name, &[]).open().link(2, leaf);
+        case.fill(b'b', size - 2).close()
+    };
+    let case = Case::new("spaces by distance", 7, 6, 120_015);
+    let case = pair(case, b"a", 0, 40_000);
+    let case = pair(case, b"c", 2, 30_000);
+    let case = pair(case, b"e", 4, 50_000);
+    case.piece(&[], &[(4, 5), (4, 1), (4, 3)]).pack(6, 120_015)
+}
+
+/// The leaf is in space 0, so the two that link it are two spaces.
+fn child_in_space_0() -> Case {
+    let linking = |case: Case, byte| case.open().link(2, 0).fill(byte, 39_998).close();
+    let case = Case::new("child in space 0", 4, 5, 80_020).leaf(b'c', 10);
+    linking(linking(case, b'd'), b'e')
+        .piece(&[], &[(2, 0), (4, 1), (4, 2)])
+        .pack(3, 80_020)
 }
 
 fn closing_cases() -> Vec<Case> {

@@ -168,13 +168,16 @@ fn case_14() {
     let [b, c] = [d, e].map(|child| session.piece(&[], &[(2, child)]) as u32);
     assert_ne!(b, c);
     let a = session.piece(&[], &[(4, b), (4, c)]) as u32;
+    let packed = session.pack(a, 80_014);
     let expected = Answer {
-        parent: d.into(),
-        field: 0,
-        needed: 80_000,
-        ..told(11, [80_014, 6, 7, 0])
+        length: 80_014,
+        ..told(0, [80_014, 6, 7, 0])
     };
-    assert_eq!(session.pack(a, 80_014).answer, expected);
+    assert_eq!(packed.answer, expected);
+    // a b d f c e g: a's offsets to b and c, b's to d, d's to f.
+    assert_eq!(packed.output[..8], [0, 0, 0, 8, 0, 0, 156, 75]);
+    assert_eq!(packed.output[8..12], [0, 2, 156, 64]);
+    assert_eq!(packed.output[40_010], 0x66);
 }
 
 #[test]

@@ -1,12 +1,13 @@
-//! The two orders, against hand counts and against the plain definitions.
+//! The three orders, against hand counts and against the plain definitions.
 
 mod common;
 
 use common::Numbers;
 use reference::graph::{Graph, Link, Node};
 use reference::graphs;
-use reference::orders::{by_distance, offset, plain, Overflow, Placing};
+use reference::orders::{by_distance, by_spaces, offset, plain, Overflow, Placing};
 use reference::random::allowed_inner;
+use reference::spaces;
 
 fn named(name: &str) -> (Graph, usize) {
     let all = graphs::all();
@@ -67,11 +68,37 @@ fn the_65_535_boundary() {
 }
 
 #[test]
-fn case_14_in_both_orders() {
+fn case_14_in_all_orders() {
     let (graph, first, second) = both("14");
     assert_eq!(first.order, [6, 4, 5, 2, 3, 0, 1]);
     assert_eq!(first, second);
     assert_eq!(first.overflow(&graph), overflow(2, 0, 80_000));
+    let third = by_spaces(&graph, 6);
+    assert_eq!(third.order, [6, 4, 2, 0, 5, 3, 1]);
+    assert_eq!(third.overflow(&graph), None);
+}
+
+#[test]
+fn spaces_are_numbered_by_the_distance_order() {
+    let (graph, _, second) = both("spaces by distance");
+    assert_eq!(second.overflow(&graph), overflow(3, 0, 120_000));
+    assert_eq!(
+        spaces::numbers(&graph, &second.order),
+        [2, 2, 1, 1, 3, 3, 0]
+    );
+    let third = by_spaces(&graph, 6);
+    assert_eq!(third.order, [6, 3, 2, 1, 0, 5, 4]);
+    assert_eq!(third.overflow(&graph), None);
+}
+
+#[test]
+fn a_child_in_space_0_joins_nothing() {
+    let (graph, _, second) = both("child in space 0");
+    assert_eq!(spaces::numbers(&graph, &second.order), [0, 1, 2, 0]);
+    let third = by_spaces(&graph, 3);
+    assert_eq!(third.overflow(&graph), overflow(3, 0, 80_010));
+    let (graph, _, second) = both("shared child");
+    assert_eq!(spaces::numbers(&graph, &second.order), [1, 1, 1, 0]);
 }
 
 #[test]
@@ -169,6 +196,29 @@ fn any_graph(numbers: &mut Numbers) -> Graph {
     Graph { nodes }
 }
 
+/// The same with a root that has links, most of width 4, to many of them.
+fn parted_graph(numbers: &mut Numbers) -> Graph {
+    let Graph { mut nodes } = any_graph(numbers);
+    let mut place = 0;
+    let mut links = Vec::new();
+    for child in 0..nodes.len() {
+        let width = numbers.one_of(&[0, 0, 4, 4, 4, 4, 4, 2]);
+        if width > 0 {
+            let inner = allowed_inner(place as usize, numbers) as u64;
+            links.push(Link {
+                place,
+                width,
+                inner,
+                child,
+            });
+            place += width;
+        }
+    }
+    let size = place + 1;
+    nodes.push(Node { size, links });
+    Graph { nodes }
+}
+
 /// All sums of weights over paths from the root, least taken, by going round
 /// until nothing changes.
 fn slow_distances(graph: &Graph, root: usize) -> Vec<Option<u64>> {
@@ -240,12 +290,53 @@ fn slow_overflow(graph: &Graph, order: &[usize], inner: impl Fn(&Link) -> u64) -
     unfit.and_then(|(parent, link, needed)| overflow(parent, link.place, needed))
 }
 
+/// Each round every object takes the least mark of those it is joined with,
+/// until nothing changes. Marks are positions in the order, and 0 in space 0.
+fn slow_spaces(graph: &Graph, order: &[usize]) -> Vec<u64> {
+    let narrow: Vec<(usize, usize)> = order
+        .iter()
+        .flat_map(|&id| {
+            let links = graph.nodes[id].links.iter();
+            links
+                .filter(|link| link.width != 4)
+                .map(move |link| (id, link.child))
+        })
+        .collect();
+    let mut mark: Vec<usize> = vec![usize::MAX; graph.nodes.len()];
+    for (position, &id) in order.iter().enumerate() {
+        mark[id] = position;
+    }
+    for _ in 0..order.len() {
+        for &(id, child) in &narrow {
+            if mark[id] == 0 {
+                mark[child] = 0;
+            }
+        }
+    }
+    for _ in 0..order.len() {
+        for &(id, child) in &narrow {
+            if mark[id] != 0 && mark[child] != 0 {
+                let least = mark[id].min(mark[child]);
+                (mark[id], mark[child]) = (least, least);
+            }
+        }
+    }
+    let mut firsts: Vec<usize> = order.iter().map(|&id| mark[id]).collect();
+    firsts.sort_unstable();
+    firsts.dedup();
+    let number = |id: usize| firsts.binary_search(&mark[id]).unwrap_or(0) as u64;
+    (0..graph.nodes.len()).map(number).collect()
+}
+
 #[test]
-fn both_orders_agree_with_the_definitions() {
+fn all_orders_agree_with_the_definitions() {
     let mut numbers = Numbers::new(1);
-    let (mut differing, mut unfit, mut by_inner) = (0, 0, 0);
-    for _ in 0..4_000 {
-        let graph = any_graph(&mut numbers);
+    let (mut differing, mut parted, mut unfit, mut by_inner) = (0, 0, 0, 0);
+    for turn in 0..6_000 {
+        let graph = match turn % 3 {
+            0 => parted_graph(&mut numbers),
+            _ => any_graph(&mut numbers),
+        };
         let root = graph.nodes.len() - 1;
         let distances = slow_distances(&graph, root);
         assert_eq!(graph.distances(root), distances);
@@ -254,6 +345,12 @@ fn both_orders_agree_with_the_definitions() {
         assert_eq!(first.order, slow_order(&graph, root, |_| 0));
         let rank = |id: usize| distances[id].unwrap();
         assert_eq!(second.order, slow_order(&graph, root, rank));
+        let spaces = slow_spaces(&graph, &second.order);
+        assert_eq!(spaces::numbers(&graph, &second.order), spaces);
+        let third = by_spaces(&graph, root);
+        let rank = |id: usize| distances[id].unwrap() + spaces[id] * 4_294_967_296;
+        assert_eq!(third.order, slow_order(&graph, root, rank));
+        parted += usize::from(second.order != third.order);
         let placed: u64 = first.order.iter().map(|&id| graph.nodes[id].size).sum();
         assert_eq!(graph.table_length(root), placed);
         differing += usize::from(first.order != second.order);
@@ -267,6 +364,7 @@ fn both_orders_agree_with_the_definitions() {
     }
     assert!(differing > 500);
     assert!(unfit > 500 && by_inner > 200, "{unfit} {by_inner}");
+    assert!(parted > 200, "{parted}");
 }
 
 #[test]
@@ -298,7 +396,12 @@ fn sixteen_thousand_pieces_are_placed() {
             .collect(),
     });
     let graph = Graph { nodes };
-    for placing in [plain(&graph, count), by_distance(&graph, count)] {
+    let placings = [
+        plain(&graph, count),
+        by_distance(&graph, count),
+        by_spaces(&graph, count),
+    ];
+    for placing in placings {
         let mut ids = placing.order.clone();
         ids.sort_unstable();
         assert!(ids.into_iter().eq(0..=count));

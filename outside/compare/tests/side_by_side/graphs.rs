@@ -18,8 +18,8 @@ pub struct Seen {
     pub calls: usize,
     pub told: Counts,
     pub most: (usize, usize),
-    /// Tables that only the distance order made fit.
-    pub by_distance: usize,
+    /// Tables by the order that made them fit: plain, distance, spaces.
+    pub by_order: [usize; 3],
     /// Refusals of an offset that is one too many for width 2.
     pub one_too_many: usize,
     /// Bytes of the longest table.
@@ -93,6 +93,18 @@ fn plain_fits(pair: &Pair, root: u32) -> (bool, bool) {
     (fits, placing.overflow(&graph).is_none())
 }
 
+/// Which of the three orders is the first that fits.
+fn first_fit(pair: &Pair, root: u32) -> usize {
+    let view = sound(&pair.reference.bytes, &pair.reference.records).expect("sound");
+    let graph = Drawn::of(&view);
+    let all = [orders::plain, orders::by_distance, orders::by_spaces];
+    let fits = |order: &fn(&Drawn, usize) -> _| {
+        let placing: orders::Placing = order(&graph, root as usize);
+        placing.overflow(&graph).is_none()
+    };
+    all.iter().position(fits).expect("one fits")
+}
+
 fn compare(graph: &Graph, numbers: &mut Numbers, seen: &mut Seen) {
     let mut session = begin(graph, numbers);
     let ids = build(graph, &mut session, numbers);
@@ -111,8 +123,8 @@ pub fn packs(
     for (id, less) in [(last, 0), (numbers.one_of(ids), 0), (last, 1)] {
         let answer = session.pack(id, less, numbers).answer;
         if answer.number == 0 {
+            seen.by_order[first_fit(&session.pair, id)] += 1;
             let (fits, without) = plain_fits(&session.pair, id);
-            seen.by_distance += usize::from(!fits);
             seen.by_inner += usize::from(fits && !without);
         }
         seen.one_too_many += usize::from(answer.needed == 65_536);
@@ -137,7 +149,7 @@ struct Batch {
     make: Make,
 }
 
-const BATCHES: [Batch; 5] = [
+const BATCHES: [Batch; 7] = [
     Batch {
         turns: 1_400,
         families: &FAMILIES,
@@ -174,6 +186,22 @@ const BATCHES: [Batch; 5] = [
         least: 3,
         more: 1,
         make: make(2, &[2], &[2, 2, 65_529, 65_530, 65_530]),
+    },
+    // Groups that fit by themselves, and their tables not.
+    Batch {
+        turns: 1_000,
+        families: &[Family::Parted],
+        least: 7,
+        more: 12,
+        make: make(3, &[2, 2, 2, 2, 4], &[2, 10, 12_000, 20_000, 25_000]),
+    },
+    // One space across all pieces.
+    Batch {
+        turns: 300,
+        families: &[Family::Zigzag],
+        least: 5,
+        more: 12,
+        make: make(2, &[2], &[2, 10, 9_000, 14_000, 20_000]),
     },
     // Many pieces whose table is longer than a field of width 2 reaches.
     Batch {
@@ -212,8 +240,9 @@ fn many_graphs() {
     }
     report(&seen);
     assert!(seen.graphs >= 2_000);
-    assert!(seen.told[11] >= 100 && seen.told[10] >= 1_000 && seen.told[16] >= 50);
-    assert!(seen.by_distance >= 30 && seen.one_too_many >= 5);
+    assert!(seen.told[11] >= 200 && seen.told[10] >= 1_000 && seen.told[16] >= 50);
+    assert!(seen.one_too_many >= 5);
+    assert!(seen.by_order[1] >= 30 && seen.by_order[2] >= 200);
     assert!(seen.met.least() >= 500 && seen.by_inner >= 20);
 }
 
@@ -293,7 +322,7 @@ pub fn report(seen: &Seen) {
         seen.told[0], seen.told[10], seen.told[11], seen.told[16]
     );
     println!(
-        "  tables by the distance order alone: {}, by inner starts alone: {}, offsets of 65,536 refused: {}",
-        seen.by_distance, seen.by_inner, seen.one_too_many
+        "  tables by the plain order: {}, distances: {}, spaces: {}; by inner starts alone: {}; offsets of 65,536 refused: {}",
+        seen.by_order[0], seen.by_order[1], seen.by_order[2], seen.by_inner, seen.one_too_many
     );
 }

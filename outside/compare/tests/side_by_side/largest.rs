@@ -48,7 +48,7 @@ fn chains_and_lattices_of_all_pieces_and_links() {
             (Kind::long(Family::Lattice, MIXED), LINKS),
         ],
     );
-    assert!(seen.told[11] >= 1 && seen.by_distance >= 3);
+    assert!(seen.told[11] >= 1 && seen.by_order[1] + seen.by_order[2] >= 3);
     assert_eq!(seen.longest, LONGEST as u64);
 }
 
@@ -82,7 +82,7 @@ fn fans_and_shared_leaves_of_all_pieces_and_links() {
             (Kind::small(Family::Shared, MIXED), LINKS),
         ],
     );
-    assert!(seen.told[11] >= 1 && seen.by_distance >= 3 && seen.by_inner >= 1);
+    assert!(seen.told[11] >= 1 && seen.by_order[1] + seen.by_order[2] >= 3 && seen.by_inner >= 1);
     assert_eq!(seen.longest, LONGEST as u64);
 }
 
@@ -105,6 +105,6 @@ fn random_graphs_of_all_pieces_and_links() {
             (spread(Kind::long(Family::Any, MIXED)), LINKS),
         ],
     );
-    assert!(seen.told[11] >= 1 && seen.by_distance >= 3);
+    assert!(seen.told[11] >= 1 && seen.by_order[1] + seen.by_order[2] >= 3);
     assert!(seen.longest > 12 << 20);
 }

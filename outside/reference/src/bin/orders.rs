@@ -1,4 +1,4 @@
-//! Prints the two orders of the named graphs, with places and overflow.
+//! Prints the three orders of the named graphs, with places and overflow.
 
 fn main() {
     print!("{}", reference::printed::orders());
