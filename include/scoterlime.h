@@ -37,7 +37,7 @@ extern "C" {
  *    8  a new object, and piece_limit is reached
  *    9  an object is open
  *   10  the output is shorter than the table
- *   11  in neither order every offset fits its field
+ *   11  in none of the three orders every offset fits its field
  *   12  the stores do not hold a sound session
  *   13  a limit or a lent area is outside its range
  *   16  a field of the open object can be filled in no order: from its inner start on the object has more bytes than its width can count
