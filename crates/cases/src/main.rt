@@ -1,7 +1,7 @@
 // Runs the calls that standard input names, a line each, and prints what every one tells and what it leaves in lent memory.
 //
 // A line is one letter and its arguments: `c` a case's name, `l` behind it the lengths of the two stores lent to the case, `s` start with
-// two limits, `o` open, `p` put with bytes in hex, `f` put of one byte many times, `k` link with width and id, `e` close, `d` drop,
+// two limits, `o` open, `p` put with bytes in hex, `f` put of one byte many times, `k` link with width, id and inner start, `e` close, `d` drop,
 // `t` tally, `a` pack with the root's id and the lengths of the output and the work memory, `v` both stores.
 mod calls;
 mod lines;
