@@ -11,6 +11,8 @@ pub const LONGEST: usize = 16_777_216;
 #[derive(Clone, Copy, Debug)]
 pub struct Kind {
     pub family: Family,
+    /// Links of a piece, or pieces of a group.
+    pub fanout: usize,
     /// Widths of the root's fields.
     pub root: &'static [u32],
     /// Widths of all other fields.
@@ -37,6 +39,7 @@ impl Kind {
     pub const fn small(family: Family, widths: &'static [u32]) -> Kind {
         Kind {
             family,
+            fanout: 4,
             root: widths,
             others: widths,
             sizes: &[2, 9, 20],
@@ -63,11 +66,12 @@ impl Kind {
         }
     }
 
-    /// A graph of so many pieces and links; the last piece is its root.
+    /// A graph of so many pieces and at least so many links; the last piece is
+    /// its root.
     pub fn graph(&self, pieces: usize, links: usize, numbers: &mut Numbers) -> Graph {
         let make = Make {
             pieces: if self.outlying { pieces - 2 } else { pieces },
-            fanout: 4,
+            fanout: self.fanout,
             widths: self.others,
             sizes: self.sizes,
         };

@@ -3,12 +3,13 @@
 //! * [`Pair`] runs each call on both and compares all that it tells and leaves.
 //! * [`claims`] checks what the history says of a call, [`Checked`] both.
 //! * [`met`] counts inner starts.
-//! * [`shapes`] and [`largest`] make graphs, [`made`] stores that hold one,
+//! * [`shapes`], [`groups`] and [`largest`] make graphs, [`made`] stores that hold one,
 //!   [`tamper`] damaged stores.
 
 pub mod checked;
 pub mod claims;
 pub mod fenced;
+pub mod groups;
 pub mod largest;
 pub mod lists;
 pub mod made;

@@ -1,5 +1,6 @@
 //! Graphs by family, and the calls that build them.
 
+use crate::groups::{Groups, Spot};
 use reference::call::Call;
 use reference::random::Numbers;
 use reference::view::Field;
@@ -110,14 +111,12 @@ pub enum Family {
     Lattice,
     Near,
     Any,
-    /// Groups that the root links by width 4, with few links between them.
-    Parted,
-    /// Each piece links its leaf and the one before; the root links the pieces.
-    Zigzag,
+    /// What falls into spaces.
+    Of(Groups),
 }
 
-/// Widths of the root's links, where it parts spaces.
-const PARTING: &[u32] = &[4, 4, 4, 4, 4, 4, 4, 2];
+/// A child, and the widths that a link to it may have.
+pub type Choice = (usize, &'static [u32]);
 
 pub const FAMILIES: [Family; 6] = [
     Family::Chain,
@@ -144,23 +143,19 @@ impl Make {
         (0..count)
             .map(|id| {
                 let children = self.children(family, id, count, numbers);
-                let widths = match family {
-                    Family::Parted | Family::Zigzag if id + 1 == count => PARTING,
-                    _ => self.widths,
-                };
-                self.piece(id, &children, widths, numbers)
+                self.piece(id, &children, numbers)
             })
             .collect()
     }
 
-    fn piece(&self, id: usize, children: &[usize], widths: &[u32], numbers: &mut Numbers) -> Piece {
+    fn piece(&self, id: usize, children: &[Choice], numbers: &mut Numbers) -> Piece {
         let size = numbers.one_of(self.sizes);
         let mut bytes = (id as u16).to_be_bytes().to_vec();
         bytes.resize(size.max(2), numbers.next() as u8);
         Piece {
             links: children
                 .iter()
-                .map(|&child| Link::any(numbers.one_of(widths), child, numbers))
+                .map(|&(child, widths)| Link::any(numbers.one_of(widths), child, numbers))
                 .collect(),
             bytes,
             links_first: numbers.below(2) == 0,
@@ -174,10 +169,10 @@ impl Make {
         id: usize,
         count: usize,
         numbers: &mut Numbers,
-    ) -> Vec<usize> {
+    ) -> Vec<Choice> {
         let last = id + 1 == count;
         let fanout = self.fanout.min(id);
-        match family {
+        let children: Vec<usize> = match family {
             Family::Chain => (id.saturating_sub(1)..id).collect(),
             Family::Fan if last => shuffled(0..id, numbers),
             Family::Fan => Vec::new(),
@@ -189,17 +184,29 @@ impl Make {
             Family::Any => (0..numbers.below(fanout + 1))
                 .map(|_| numbers.below(id))
                 .collect(),
-            Family::Parted if last => shuffled(0..id, numbers)
-                .into_iter()
-                .filter(|child| child % self.fanout == self.fanout - 1)
-                .collect(),
-            Family::Parted => parted(id, self.fanout, numbers),
-            Family::Zigzag if last => (0..id).filter(|child| child % 2 == 1).collect(),
-            Family::Zigzag if id % 2 == 0 => Vec::new(),
-            Family::Zigzag => [id.checked_sub(3), Some(id - 1)]
-                .into_iter()
-                .flatten()
-                .collect(),
+            Family::Of(groups) => return self.grouped(groups, id, count, numbers),
+        };
+        let any = |child| (child, self.widths);
+        children.into_iter().map(any).collect()
+    }
+
+    fn grouped(
+        &self,
+        groups: Groups,
+        id: usize,
+        count: usize,
+        numbers: &mut Numbers,
+    ) -> Vec<Choice> {
+        let spot = Spot {
+            id,
+            group: groups.size(self.fanout),
+            leaves: groups.leaves(count),
+            widths: self.widths,
+        };
+        if id + 1 == count {
+            groups.below_root(&spot, numbers)
+        } else {
+            groups.below(&spot, numbers)
         }
     }
 }
@@ -230,18 +237,7 @@ fn near(id: usize, numbers: &mut Numbers) -> usize {
     id - 1 - numbers.below(id.min(60))
 }
 
-/// Pieces of the same group, and seldom one of another.
-fn parted(id: usize, group: usize, numbers: &mut Numbers) -> Vec<usize> {
-    let begin = id / group * group;
-    let mut children = shuffled(begin..id, numbers);
-    children.truncate(1 + numbers.below(2));
-    if id > 0 && numbers.below(12) == 0 {
-        children.push(numbers.below(id));
-    }
-    children
-}
-
-fn shuffled(ids: std::ops::Range<usize>, numbers: &mut Numbers) -> Vec<usize> {
+pub(crate) fn shuffled(ids: std::ops::Range<usize>, numbers: &mut Numbers) -> Vec<usize> {
     let mut ids: Vec<usize> = ids.collect();
     for at in (1..ids.len()).rev() {
         ids.swap(at, numbers.below(at + 1));
@@ -270,7 +266,7 @@ pub fn thicken(graph: &mut Graph, wanted: usize, widths: &[u32], numbers: &mut N
     let parents: Vec<usize> = (0..graph.len())
         .filter(|&id| !graph[id].links.is_empty())
         .collect();
-    for more in 0..wanted - links(graph) {
+    for more in 0..wanted.saturating_sub(links(graph)) {
         let own = &mut graph[parents[more % parents.len()]].links;
         let child = own[numbers.below(own.len())].child;
         own.push(Link::any(numbers.one_of(widths), child, numbers));

@@ -11,5 +11,6 @@ mod hopeless;
 mod largest;
 mod made;
 mod needs;
+mod spaces;
 mod tampered;
 mod weights;
