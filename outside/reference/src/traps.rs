@@ -59,6 +59,8 @@ fn order_cases() -> Vec<Case> {
         different_ready_times(),
         spaces_by_distance(),
         child_in_space_0(),
+        width_3_joins(),
+        width_3_keeps_together(),
     ]
 }
 
@@ -124,6 +126,33 @@ fn child_in_space_0() -> Case {
     linking(linking(case, b'd'), b'e')
         .piece(&[], &[(2, 0), (4, 1), (4, 2)])
         .pack(3, 80_020)
+}
+
+/// The leaf joins the two that link it, one by width 2 and one by width 3.
+fn width_3_joins() -> Case {
+    let linking = |case: Case, width: u32| {
+        let bytes = 40_000 - width as usize;
+        case.open().link(width, 0).fill(b'd', bytes).close()
+    };
+    let case = Case::new("width 3 joins", 4, 4, 80_009).leaf(b'c', 1);
+    linking(linking(case, 2), 3)
+        .piece(&[], &[(4, 1), (4, 2)])
+        .pack(3, 80_009)
+}
+
+/// Width 3 alone holds the large child of p to it, so that both come before c,
+/// and p reaches the leaf, which waits for its large child.
+fn width_3_keeps_together() -> Case {
+    Case::new("width 3 keeps together", 5, 5, 80_014)
+        .piece(b"x", &[])
+        .open()
+        .link(4, 0)
+        .fill(b'q', 39_996)
+        .close()
+        .leaf(b'c', 40_000)
+        .piece(&[], &[(3, 1), (2, 0)])
+        .piece(&[], &[(4, 3), (4, 2)])
+        .pack(4, 80_014)
 }
 
 fn closing_cases() -> Vec<Case> {

@@ -1,4 +1,4 @@
-//! The twenty-four cases counted by hand.
+//! The twenty-four cases counted by hand, and those of width 3.
 
 mod common;
 
@@ -321,4 +321,43 @@ fn case_24() {
     assert_eq!(session.close(), told(16, [65_537, 1, 1, 1]));
     let mut session = up_to(65_535, 0, 1);
     assert_eq!(session.close(), told(8, [65_536, 1, 1, 1]));
+}
+
+/// An object of 40,000 bytes with a link of this width to id 0.
+fn large(session: &mut Session, width: u32) -> u32 {
+    session.open();
+    session.link(width, 0);
+    session.put(&vec![0x64; 40_000 - width as usize]);
+    session.close().id as u32
+}
+
+#[test]
+fn width_3_joins() {
+    let mut session = Session::new(4, 4, 80_009);
+    session.piece(&[0x63], &[]);
+    let both = [2, 3].map(|width| large(&mut session, width));
+    let root = session.piece(&[], &both.map(|id| (4, id))) as u32;
+    let expected = Answer {
+        parent: 1,
+        field: 0,
+        needed: 80_000,
+        ..told(11, [80_009, 4, 4, 0])
+    };
+    assert_eq!(session.pack(root, 80_009).answer, expected);
+}
+
+#[test]
+fn width_3_keeps_together() {
+    let mut session = Session::new(5, 5, 80_014);
+    session.piece(&[0x78], &[]);
+    let q = large(&mut session, 4);
+    let c = session.piece(&[0x63; 40_000], &[]) as u32;
+    let p = session.piece(&[], &[(3, q), (2, 0)]) as u32;
+    let root = session.piece(&[], &[(4, p), (4, c)]) as u32;
+    let packed = session.pack(root, 80_014);
+    assert_eq!((packed.answer.number, packed.answer.length), (0, 80_014));
+    // root p q x c: the root's offsets to p and c, p's to q and x.
+    assert_eq!(packed.output[..8], [0, 0, 0, 8, 0, 0, 156, 78]);
+    assert_eq!(packed.output[8..13], [0, 0, 5, 156, 69]);
+    assert_eq!(packed.output[40_013], 0x78);
 }

@@ -146,6 +146,7 @@ fn numbers_counted_by_hand() {
         ("12", 65_546),
         ("14", 80_014),
         ("spaces by distance", 120_015),
+        ("width 3 keeps together", 80_014),
         ("21 inner start 4469", 70_005),
         ("22 size 65535", 65_536),
         ("23 size 65545", 65_546),
@@ -156,7 +157,11 @@ fn numbers_counted_by_hand() {
             "case {name}"
         );
     }
-    let unfit = [("13", 2, 2, 65_536), ("child in space 0", 3, 0, 80_010)];
+    let unfit = [
+        ("13", 2, 2, 65_536),
+        ("child in space 0", 3, 0, 80_010),
+        ("width 3 joins", 1, 0, 80_000),
+    ];
     for (name, parent, field, needed) in unfit {
         let answer = told(name);
         let link = (answer.parent, answer.field, answer.needed);
