@@ -10,6 +10,7 @@ mod looking;
 mod packing;
 mod putting;
 mod sessions;
+mod spaces;
 mod timing;
 
 use timing::Times;
@@ -21,6 +22,9 @@ pub struct Line {
 }
 
 fn main() {
+    if spaces::asked() {
+        return;
+    }
     println!(
         "{:<44}{:>12}{:>12}{:>8}",
         "", "proved µs", "reference", "ratio"

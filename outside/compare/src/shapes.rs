@@ -237,7 +237,7 @@ fn near(id: usize, numbers: &mut Numbers) -> usize {
     id - 1 - numbers.below(id.min(60))
 }
 
-pub(crate) fn shuffled(ids: std::ops::Range<usize>, numbers: &mut Numbers) -> Vec<usize> {
+pub fn shuffled(ids: std::ops::Range<usize>, numbers: &mut Numbers) -> Vec<usize> {
     let mut ids: Vec<usize> = ids.collect();
     for at in (1..ids.len()).rev() {
         ids.swap(at, numbers.below(at + 1));

@@ -6,7 +6,7 @@ use compare::met::Met;
 use compare::pair::Counts;
 use compare::shapes::{self, Family, Graph, Link, Make, Piece, FAMILIES, PARTS};
 use compare::{seed, Checked, Numbers, Pair};
-use reference::call::Call;
+use reference::call::{Call, Stores};
 use reference::graph::Graph as Drawn;
 use reference::orders;
 use reference::sound::sound;
@@ -96,8 +96,8 @@ fn plain_fits(pair: &Pair, root: u32) -> (bool, bool) {
 }
 
 /// Which of the three orders is the first that fits.
-fn first_fit(pair: &Pair, root: u32) -> usize {
-    let view = sound(&pair.reference.bytes, &pair.reference.records).expect("sound");
+pub fn first_fit(stores: &Stores, root: u32) -> usize {
+    let view = sound(&stores.bytes, &stores.records).expect("sound");
     let graph = Drawn::of(&view);
     let all = [orders::plain, orders::by_distance, orders::by_spaces];
     let fits = |order: &fn(&Drawn, usize) -> _| {
@@ -160,7 +160,7 @@ fn pack(
     if answer.number != 0 {
         return None;
     }
-    let order = first_fit(&session.pair, id);
+    let order = first_fit(&session.pair.reference, id);
     seen.by_order[order] += 1;
     let (fits, without) = plain_fits(&session.pair, id);
     seen.by_inner += usize::from(fits && !without);
@@ -178,12 +178,17 @@ pub struct Batch {
 }
 
 impl Batch {
-    pub fn graph(&self, turn: usize, numbers: &mut Numbers) -> Graph {
-        let make = Make {
-            pieces: self.least + numbers.below(self.more),
-            ..self.make
-        };
-        make.graph(self.families[turn % self.families.len()], numbers)
+    /// Makes the graphs, one after the other.
+    pub fn each(&self, numbers: &mut Numbers, mut made: impl FnMut(&Graph, &mut Numbers)) {
+        for turn in 0..self.turns {
+            let make = Make {
+                pieces: self.least + numbers.below(self.more),
+                ..self.make
+            };
+            let family = self.families[turn % self.families.len()];
+            let graph = make.graph(family, numbers);
+            made(&graph, numbers);
+        }
     }
 }
 
@@ -249,10 +254,9 @@ fn many_graphs() {
     let mut numbers = seed::numbers("graphs");
     let mut seen = Seen::default();
     for batch in &BATCHES {
-        for turn in 0..batch.turns {
-            let graph = batch.graph(turn, &mut numbers);
-            compare(&graph, &mut numbers, &mut seen);
-        }
+        batch.each(&mut numbers, |graph, numbers| {
+            compare(graph, numbers, &mut seen)
+        });
     }
     report(&seen);
     assert!(seen.graphs >= 2_000);

@@ -46,14 +46,10 @@ fn graphs_that_fall_into_spaces() {
     let mut sum = [0; 2];
     for batch in &BATCHES {
         let mut seen = Seen::default();
-        for turn in 0..batch.turns {
-            let graph = batch.graph(turn, &mut numbers);
-            if turn % 8 == 0 {
-                compare(&graph, &mut numbers, &mut seen);
-            } else {
-                compare_made(&graph, &mut numbers, &mut seen);
-            }
-        }
+        batch.each(&mut numbers, |graph, numbers| match seen.graphs % 8 {
+            0 => compare(graph, numbers, &mut seen),
+            _ => compare_made(graph, numbers, &mut seen),
+        });
         println!("{:?}: {}", batch.families, told(&seen));
         report(&seen);
         assert!(seen.by_spaces.iter().all(|&count| count >= 10));
