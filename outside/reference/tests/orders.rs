@@ -202,7 +202,7 @@ fn parted_graph(numbers: &mut Numbers) -> Graph {
     let mut place = 0;
     let mut links = Vec::new();
     for child in 0..nodes.len() {
-        let width = numbers.one_of(&[0, 0, 4, 4, 4, 4, 4, 2]);
+        let width = numbers.one_of(&[0, 0, 0, 4, 4, 4, 4, 4, 4, 2, 3]);
         if width > 0 {
             let inner = allowed_inner(place as usize, numbers) as u64;
             links.push(Link {
@@ -354,7 +354,7 @@ fn all_orders_agree_with_the_definitions() {
         let placed: u64 = first.order.iter().map(|&id| graph.nodes[id].size).sum();
         assert_eq!(graph.table_length(root), placed);
         differing += usize::from(first.order != second.order);
-        for placing in [first, second] {
+        for placing in [first, second, third] {
             let expected = slow_overflow(&graph, &placing.order, |link| link.inner);
             assert_eq!(placing.overflow(&graph), expected);
             let without = slow_overflow(&graph, &placing.order, |_| 0);
