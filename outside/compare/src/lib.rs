@@ -3,8 +3,8 @@
 //! * [`Pair`] runs each call on both and compares all that it tells and leaves.
 //! * [`claims`] checks what the history says of a call, [`Checked`] both.
 //! * [`met`] counts inner starts.
-//! * [`shapes`], [`groups`] and [`largest`] make graphs, [`made`] stores that hold one,
-//!   [`tamper`] damaged stores.
+//! * [`shapes`], [`groups`] and [`largest`] make graphs, [`made`] stores that
+//!   hold one, [`tamper`] damaged stores.
 
 pub mod checked;
 pub mod claims;

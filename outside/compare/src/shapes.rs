@@ -112,7 +112,7 @@ pub enum Family {
     Near,
     Any,
     /// What falls into spaces.
-    Of(Groups),
+    Grouped(Groups),
 }
 
 /// A child, and the widths that a link to it may have.
@@ -131,7 +131,8 @@ pub const FAMILIES: [Family; 6] = [
 #[derive(Clone, Copy, Debug)]
 pub struct Make {
     pub pieces: usize,
-    /// Links of a piece, where the family leaves it open.
+    /// Links of a piece, where the family leaves it open, or pieces of a group, of
+    /// which ladders and zigzags have twice as many.
     pub fanout: usize,
     pub widths: &'static [u32],
     pub sizes: &'static [usize],
@@ -184,7 +185,7 @@ impl Make {
             Family::Any => (0..numbers.below(fanout + 1))
                 .map(|_| numbers.below(id))
                 .collect(),
-            Family::Of(groups) => return self.grouped(groups, id, count, numbers),
+            Family::Grouped(groups) => return self.grouped(groups, id, count, numbers),
         };
         let any = |child| (child, self.widths);
         children.into_iter().map(any).collect()
@@ -261,7 +262,7 @@ pub fn bytes(graph: &Graph) -> usize {
 }
 
 /// More links, each from a piece that has some to one of its children, until
-/// there are this many.
+/// there are at least this many.
 pub fn thicken(graph: &mut Graph, wanted: usize, widths: &[u32], numbers: &mut Numbers) {
     let parents: Vec<usize> = (0..graph.len())
         .filter(|&id| !graph[id].links.is_empty())

@@ -192,7 +192,7 @@ impl Batch {
     }
 }
 
-const BATCHES: [Batch; 5] = [
+pub const BATCHES: [Batch; 5] = [
     Batch {
         turns: 1_400,
         families: &FAMILIES,

@@ -23,12 +23,12 @@ const fn batch(groups: &'static [Family], fanout: usize, least: usize) -> Batch 
     }
 }
 
-const BATCHES: [Batch; 6] = [
-    batch(&[Family::Of(Groups::Parted)], 3, 9),
-    batch(&[Family::Of(Groups::Nested)], 3, 14),
-    batch(&[Family::Of(Groups::Bridged)], 3, 9),
-    batch(&[Family::Of(Groups::Ladders)], 2, 9),
-    batch(&[Family::Of(Groups::Zigzags)], 5, 9),
+pub const BATCHES: [Batch; 6] = [
+    batch(&[Family::Grouped(Groups::Parted)], 3, 9),
+    batch(&[Family::Grouped(Groups::Nested)], 3, 14),
+    batch(&[Family::Grouped(Groups::Bridged)], 3, 9),
+    batch(&[Family::Grouped(Groups::Ladders)], 2, 9),
+    batch(&[Family::Grouped(Groups::Zigzags)], 5, 9),
     // Most links part.
     Batch {
         turns: 600,
@@ -83,7 +83,7 @@ const fn kind(
         fanout,
         root: &[4],
         sizes,
-        ..Kind::small(Family::Of(groups), others)
+        ..Kind::small(Family::Grouped(groups), others)
     }
 }
 
