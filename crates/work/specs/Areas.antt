@@ -10,8 +10,8 @@ use Rattle.work.specs.declared.Areas.{Areas}
 abbrev pub graphWords : ℕ → ℕ → ℕ
 graphWords nodes links = nodes * 3 + links * linkWords
 
--- behind it six areas of a word for each node. Some have several names, since one array is done with before another begins there: the line
--- and the order; the ready nodes and the places; and between two orders, where the spaces are found, three of an order's
+-- behind it seven areas of a word for each node. Some have several names, since one array is done with before another begins there: the line
+-- and the order; the nodes that became ready and the places; and between two orders, where the spaces are found, three of an order's
 abbrev pub areasOf : ℕ → ℕ → Areas
 areasOf nodes links =
     let g = graphWords nodes links in
@@ -24,14 +24,15 @@ areasOf nodes links =
       spots = g;
       waiting = g + nodes;
       spaces = g + nodes;
-      ready = g + nodes * 2;
+      arrived = g + nodes * 2;
       places = g + nodes * 2;
       bosses = g + nodes * 2;
-      order = g + nodes * 3;
-      line = g + nodes * 3;
-      incoming = g + nodes * 4;
-      distances = g + nodes * 5;
-      end = g + nodes * 6;
+      heap = g + nodes * 3;
+      order = g + nodes * 4;
+      line = g + nodes * 4;
+      incoming = g + nodes * 5;
+      distances = g + nodes * 6;
+      end = g + nodes * 7;
     }
 
 -- how many words the work memory needs
@@ -50,10 +51,11 @@ pub record Apart (a : Areas) : Type 0 where
   pub spots : a .spots ≡ a .keys
   pub waiting : a .waiting ≡ a .keys + a .nodes
   pub spaces : a .spaces ≡ a .waiting
-  pub ready : a .ready ≡ a .waiting + a .nodes
-  pub places : a .places ≡ a .ready
-  pub bosses : a .bosses ≡ a .ready
-  pub order : a .order ≡ a .ready + a .nodes
+  pub arrived : a .arrived ≡ a .waiting + a .nodes
+  pub places : a .places ≡ a .arrived
+  pub bosses : a .bosses ≡ a .arrived
+  pub heap : a .heap ≡ a .arrived + a .nodes
+  pub order : a .order ≡ a .heap + a .nodes
   pub line : a .line ≡ a .order
   pub incoming : a .incoming ≡ a .order + a .nodes
   pub distances : a .distances ≡ a .incoming + a .nodes
@@ -69,9 +71,10 @@ areas-apart nodes links =
       spots = omega arith;
       waiting = omega arith;
       spaces = omega arith;
-      ready = omega arith;
+      arrived = omega arith;
       places = omega arith;
       bosses = omega arith;
+      heap = omega arith;
       order = omega arith;
       line = omega arith;
       incoming = omega arith;

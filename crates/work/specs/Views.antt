@@ -16,9 +16,13 @@ keyIn a w i = getD (keysIn a w) i 0
 abbrev pub waitingIn : Areas → List ℕ → List ℕ
 waitingIn a w = region (a .waiting) (a .nodes) w
 
--- the k ready nodes
-abbrev pub readyIn : Areas → ℕ → List ℕ → List ℕ
-readyIn a k w = region (a .ready) k w
+-- the m nodes that became ready, in that order
+abbrev pub arrivedIn : Areas → ℕ → List ℕ → List ℕ
+arrivedIn a m w = region (a .arrived) m w
+
+-- the k numbers of the heap
+abbrev pub heapIn : Areas → ℕ → List ℕ → List ℕ
+heapIn a k w = region (a .heap) k w
 
 -- the q placed nodes
 abbrev pub orderIn : Areas → ℕ → List ℕ → List ℕ
