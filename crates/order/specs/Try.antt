@@ -15,7 +15,7 @@ use Rattle.work.specs.Views.{keyIn, orderIn, placesIn, distancesIn, spacesIn}
 use Rattle.work.specs.declared.Areas.{Areas}
 use Rattle.order_graph.specs.Graph.{mostNodes, graphOn}
 use Rattle.order_survey.specs.Survey.{farAway, Surveyed}
-use Rattle.order_place.specs.Run.{OrderIds}
+use Rattle.order_place.specs.Place.{SmallKeys, OrderIds}
 use Rattle.order_fit.specs.declared.Look.{Look}
 use Rattle.order_fit.specs.declared.Look.the-variants.{Fits, Over}
 use Rattle.order.specs.declared.By.{By}
@@ -63,12 +63,12 @@ pub record DistanceOrder (a : Areas) (n root r : ℕ) (w : List ℕ) : Type 0 wh
   pub nodes : OrderIds a n r w
   pub order : orderIn a r w ≡ distanceOrder (graphOn a n w) root
 
--- areas whose words leave room for a key
-pub record Keying (a : Areas) (by : By) (w : List ℕ) : Type 0 where
+-- distances and numbers of spaces that leave room for a key
+pub record Keying (a : Areas) (w : List ℕ) : Type 0 where
   pub apart : Apart a
   pub long : a .end ≤ length w
   pub near : ceiling (distancesIn a w) ≤ farAway + 1
-  pub small : by ≡ By.Space → ceiling (spacesIn a w) ≤ mostNodes
+  pub small : ceiling (spacesIn a w) ≤ mostNodes
 
 -- ---- what is done
 
@@ -79,8 +79,15 @@ pub record SpacesFound (a : Areas) (n root : ℕ) (w w′ : List ℕ) : Type 0 w
 pub record Keyed (a : Areas) (by : By) (w w′ : List ℕ) : Type 0 where
   pub kept : Kept (a .keys) (a .waiting) w w′
   pub keys : (i : ℕ) → i < a .nodes → keyIn a w′ i ≡ keyBy by a w i
+  pub small : SmallKeys a w′
 
--- the order of r nodes and their places stand in the memory, and the first link that does not fit is told
+-- the order of r nodes stands in the memory
+pub record Ordered (a : Areas) (n root : ℕ) (by : By) (r : ℕ) (w w′ : List ℕ) : Type 0 where
+  pub kept : Kept (a .keys) (a .incoming) w w′
+  pub nodes : OrderIds a n r w′
+  pub order : orderIn a r w′ ≡ orderWith by (graphOn a n w) root
+
+-- so do their places, and the first link that does not fit is told
 pub record Tried (a : Areas) (n root : ℕ) (by : By) (r : ℕ) (u : Look) (w w′ : List ℕ) : Type 0 where
   pub kept : Kept (a .keys) (a .incoming) w w′
   pub nodes : OrderIds a n r w′

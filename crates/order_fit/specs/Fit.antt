@@ -12,7 +12,7 @@ use Rattle.model.specs.Table.{offset}
 use Rattle.work.specs.declared.Areas.{Areas}
 use Rattle.order_graph.specs.Graph.{Stands, graphOn, objectOf}
 use Rattle.work.specs.Views.{orderIn, placesIn}
-use Rattle.order_place.specs.Run.{OrderIds}
+use Rattle.order_place.specs.Place.{OrderIds}
 use Rattle.order_fit.specs.declared.Look.{Look}
 use Rattle.order_fit.specs.declared.Look.the-variants.{Fits, Over}
 

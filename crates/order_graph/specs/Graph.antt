@@ -50,7 +50,7 @@ objectOf i = record { 0 = i }
 
 -- room for at most so many nodes: far more than the object limit can be
 abbrev pub mostNodes : ℕ
-mostNodes = 65536
+mostNodes = 32768
 
 -- a node has at most so many links: far more than the link limit can be
 abbrev pub mostNodeLinks : ℕ

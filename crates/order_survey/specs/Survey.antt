@@ -44,9 +44,9 @@ linedOf a r w = record { line = lineIn a r w; incoming = incomingIn a w }
 
 -- ---- what the steps ask and do
 
--- far beyond any distance: a path has fewer links than there are nodes, each of less than mostWeight, 2^33. With 16,384 objects that is below 2^47
+-- beyond any distance: a path has fewer links than there are nodes, at most mostNodes, 2^15, each of less than mostWeight, 2^33
 abbrev pub farAway : ℕ
-farAway = 9223372036854775808
+farAway = 281474976710656
 
 -- the fields of node i
 pub record Counting (a : Areas) (n i : ℕ) (w : List ℕ) : Type 0 where

@@ -13,7 +13,7 @@ use Rattle.work.specs.declared.Areas.{Areas}
 use Rattle.order_graph.specs.Graph.{graphOn, linkOf, linksAt, linkCount, mostNodes, mostNodeLinks, mostSize, Stands}
 use Rattle.work.specs.Views.{orderIn}
 use Rattle.order_survey.specs.Survey.{Surveyed}
-use Rattle.order_place.specs.Run.{OrderIds}
+use Rattle.order_place.specs.Place.{OrderIds}
 use Rattle.order.specs.Try.{orderWith}
 use Rattle.order.specs.declared.By.{By}
 

@@ -15,7 +15,7 @@ use Rattle.layout.specs.declared.state.State.{State}
 use Rattle.work.specs.declared.Areas.{Areas}
 use Rattle.work.specs.Views.{orderIn}
 use Rattle.order_survey.specs.Survey.{Surveyed}
-use Rattle.order_place.specs.Run.{OrderIds}
+use Rattle.order_place.specs.Place.{OrderIds}
 use Rattle.order_fit.specs.declared.Look.{Look}
 use Rattle.order_fit.specs.declared.Look.the-variants.{Fits, Over}
 use Rattle.order.specs.Try.{orderWith}

@@ -13,7 +13,7 @@ use Rattle.layout.specs.Known.{Read}
 use Rattle.layout.specs.declared.state.State.{State}
 use Rattle.work.specs.Views.{orderIn, placesIn}
 use Rattle.work.specs.declared.Areas.{Areas}
-use Rattle.order_place.specs.Run.{OrderIds}
+use Rattle.order_place.specs.Place.{OrderIds}
 use Rattle.pack_copy.specs.Copy.{Standing}
 
 -- what writing r objects into `room` bytes asks
