@@ -4,12 +4,12 @@
 use order_fit::Look;
 use order_fit::look_all;
 use order_fit::set_places;
-use order_place::place_all;
+use order_place::place_by_keys;
+use order_place::place_in_turn;
 use order_spaces::number_spaces;
 use regions::copy;
-use regions::fill;
 use work::Areas;
-ghost use Rattle.order.specs.Try.{DistanceOrder, SpacesFound, Keying, Keyed, Trying, Tried};
+ghost use Rattle.order.specs.Try.{DistanceOrder, SpacesFound, Keying, Keyed, Trying, Ordered, Tried};
 ghost use Rattle.order.specs.declared.By.the-variants as By;
 
 // What the number of a space weighs beside a distance.
@@ -37,7 +37,7 @@ pub fn find_spaces(work: &mut [u64], a: Areas, n: usize, root: usize, r: usize)
 
 // The keys of the order by spaces.
 fn weigh_spaces(work: &mut [u64], a: Areas)
-    requires { ⌜ Keying a By.Space (now work) ⌝ }
+    requires { ⌜ Keying a (now work) ⌝ }
     ensures { λ _. ⌜ Keyed a By.Space (now (work .entry)) (now (work .exit)) ⌝ }
 {
     let nodes = a.nodes;
@@ -51,14 +51,30 @@ fn weigh_spaces(work: &mut [u64], a: Areas)
     }
 }
 
-fn fill_keys(work: &mut [u64], a: Areas, by: By)
-    requires { ⌜ Keying a by (now work) ⌝ }
-    ensures { λ _. ⌜ Keyed a by (now (work .entry)) (now (work .exit)) ⌝ }
+fn place_by_distance(work: &mut [u64], a: Areas, n: usize, root: usize) -> usize
+    requires { ⌜ Trying a n root By.Distance (now work) ⌝ }
+    ensures { λ r. ⌜ Ordered a n root By.Distance r (now (work .entry)) (now (work .exit)) ⌝ }
+{
+    copy(work, a.distances, a.keys, a.nodes);
+    place_by_keys(work, a, n, root)
+}
+
+fn place_by_space(work: &mut [u64], a: Areas, n: usize, root: usize) -> usize
+    requires { ⌜ Trying a n root By.Space (now work) ⌝ }
+    ensures { λ r. ⌜ Ordered a n root By.Space r (now (work .entry)) (now (work .exit)) ⌝ }
+{
+    weigh_spaces(work, a);
+    place_by_keys(work, a, n, root)
+}
+
+fn place(work: &mut [u64], a: Areas, n: usize, root: usize, by: By) -> usize
+    requires { ⌜ Trying a n root by (now work) ⌝ }
+    ensures { λ r. ⌜ Ordered a n root by r (now (work .entry)) (now (work .exit)) ⌝ }
 {
     match by {
-        By::Readiness => fill(work, a.keys, a.nodes, 0),
-        By::Distance => copy(work, a.distances, a.keys, a.nodes),
-        By::Space => weigh_spaces(work, a),
+        By::Readiness => place_in_turn(work, a, n, root),
+        By::Distance => place_by_distance(work, a, n, root),
+        By::Space => place_by_space(work, a, n, root),
     }
 }
 
@@ -66,8 +82,7 @@ pub fn try_order(work: &mut [u64], a: Areas, n: usize, root: usize, by: By) -> T
     requires { ⌜ Trying a n root by (now work) ⌝ }
     ensures { λ r. ⌜ Tried a n root by (r .placed) (r .look) (now (work .entry)) (now (work .exit)) ⌝ }
 {
-    fill_keys(work, a, by);
-    let placed = place_all(work, a, n, root);
+    let placed = place(work, a, n, root, by);
     set_places(work, a, n, placed);
     let look = look_all(work, a, n, placed);
     Try {

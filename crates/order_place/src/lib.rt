@@ -1,61 +1,76 @@
-// The order of placing, by the keys in their area.
-use order_graph::field_at;
-use order_graph::link_count;
-use order_ready::least_at;
-use order_ready::release;
-use order_ready::take_ready;
+// The order of placing: as the nodes become ready, or by keys, where a heap has the next one.
+use order_release::release_all;
+use ready::push_arrivals;
+use ready::take_least;
 use regions::copy;
 use work::Areas;
-ghost use Prim.Native.Nat.{_<_};
-ghost use Rattle.order_place.specs.Run.{Live, ReleasedAll, Places, AllPlaced, Starting, OrderFound};
+ghost use Rattle.work.specs.Views.{keyIn};
+ghost use Rattle.order_release.specs.Release.{Arriving};
+ghost use Rattle.order_place.specs.Place.{Starting, SmallKeys, Begun, RootReady, RootInHeap, OrderFound, sameKey};
 
-// Every link of node i, which is placed; the answer is how many are ready then.
-fn release_all(work: &mut [u64], a: Areas, n: usize, i: usize, k: usize) -> usize
-    requires { ⌜ (i < n) × Live a n k (now work) ⌝ }
-    ensures { λ r. ⌜ ReleasedAll a n i k r (now (work .entry)) (now (work .exit)) ⌝ }
+mod ready;
+
+// Each node waits for its incoming fields, and the root alone has become ready.
+fn begin(work: &mut [u64], a: Areas, at: usize, n: usize, root: usize)
+    requires { ⌜ Starting a n root (now work) × Arriving a at ⌝ }
+    ensures { λ _. ⌜ Begun a at root (now (work .entry)) (now (work .exit)) ⌝ }
 {
-    let count = link_count(work, a, n, i);
-    let mut left = k;
-    let mut t = 0;
-    while t < count {
-        let f = field_at(work, a, n, i, t);
-        left = release(work, a, f.child, left);
-        t += 1;
-    }
-    left
+    copy(work, a.incoming, a.waiting, a.nodes);
+    work[at] = root as u64;
 }
 
-// Places the ready node of least key; the answer is how many are ready then.
-fn place_next(work: &mut [u64], a: Areas, n: usize, k: usize, q: usize) -> usize
-    requires { ⌜ (0 < k) × (q < a .nodes) × Live a n k (now work) ⌝ }
-    ensures { λ r. ⌜ Places a n k q r (now (work .entry)) (now (work .exit)) ⌝ }
+// Places every node as it becomes ready, from the root on; the answer is how many. The order itself is the queue of the ready ones.
+fn place_queue(work: &mut [u64], a: Areas, n: usize, root: usize) -> usize
+    requires { ⌜ RootReady a (a .order) n root (now work) ⌝ }
+    ensures { λ r. ⌜ OrderFound a n root sameKey r (now (work .entry)) (now (work .exit)) ⌝ }
 {
-    let x = least_at(work, a, k);
-    let i = take_ready(work, a, k, q, x);
-    release_all(work, a, n, i, k - 1)
-}
-
-// Places until none is ready, from one ready node on; the answer is how many are placed.
-fn place_rest(work: &mut [u64], a: Areas, n: usize) -> usize
-    requires { ⌜ Live a n 1 (now work) ⌝ }
-    ensures { λ r. ⌜ AllPlaced a n r (now (work .entry)) (now (work .exit)) ⌝ }
-{
-    let mut k = 1;
+    let order = a.order;
+    let mut m = 1;
     let mut q = 0;
-    while 0 < k {
-        k = place_next(work, a, n, k, q);
+    while q < m {
+        let i = work[order + q] as usize;
+        m = release_all(work, a, order, n, i, m);
         q += 1;
     }
     q
 }
 
-// The order of placing from the root; the answer is how many are placed. Each node waits for its incoming fields.
-pub fn place_all(work: &mut [u64], a: Areas, n: usize, root: usize) -> usize
+// The order of placing from the root where all keys are alike; the answer is how many are placed.
+pub fn place_in_turn(work: &mut [u64], a: Areas, n: usize, root: usize) -> usize
     requires { ⌜ Starting a n root (now work) ⌝ }
-    ensures { λ r. ⌜ OrderFound a n root r (now (work .entry)) (now (work .exit)) ⌝ }
+    ensures { λ r. ⌜ OrderFound a n root sameKey r (now (work .entry)) (now (work .exit)) ⌝ }
 {
-    copy(work, a.incoming, a.waiting, a.nodes);
-    let ready = a.ready;
-    work[ready] = root as u64;
-    place_rest(work, a, n)
+    begin(work, a, a.order, n, root);
+    place_queue(work, a, n, root)
+}
+
+// Places the ready node of least key until none is left, from the root on, which is in the heap; the answer is how many.
+fn place_heap(work: &mut [u64], a: Areas, n: usize, root: usize) -> usize
+    requires { ⌜ RootInHeap a n root (now work) ⌝ }
+    ensures { λ r. ⌜ OrderFound a n root (keyIn a (now (work .entry))) r (now (work .entry)) (now (work .exit)) ⌝ }
+{
+    let order = a.order;
+    let arrived = a.arrived;
+    let mut m = 1;
+    let mut q = 0;
+    while q < m {
+        let k = m - q;
+        let i = take_least(work, a, n, m, k);
+        work[order + q] = i as u64;
+        let more = release_all(work, a, arrived, n, i, m);
+        push_arrivals(work, a, n, m, more, k - 1);
+        m = more;
+        q += 1;
+    }
+    q
+}
+
+// The order of placing from the root by the keys; the answer is how many are placed.
+pub fn place_by_keys(work: &mut [u64], a: Areas, n: usize, root: usize) -> usize
+    requires { ⌜ Starting a n root (now work) × SmallKeys a (now work) ⌝ }
+    ensures { λ r. ⌜ OrderFound a n root (keyIn a (now (work .entry))) r (now (work .entry)) (now (work .exit)) ⌝ }
+{
+    begin(work, a, a.arrived, n, root);
+    push_arrivals(work, a, n, 0, 1, 0);
+    place_heap(work, a, n, root)
 }

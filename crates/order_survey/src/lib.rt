@@ -15,8 +15,8 @@ ghost use Rattle.order_graph.specs.Graph.{graphOn, AtNode};
 ghost use Rattle.order_survey.specs.Survey.{unlined, linedOf, farAway};
 ghost use Rattle.order_survey.specs.Survey.{Counting, CountedAll, Lining, LineFound, Lowering, Lowered, Along, LoweredAlong, DistancesSet, Measured};
 
-// Far beyond any distance.
-const FAR_AWAY: u64 = 9223372036854775808;
+// Beyond any distance.
+const FAR_AWAY: u64 = 281474976710656;
 
 // The fields of node i, which joined the line, counted.
 fn count_links(work: &mut [u64], a: Areas, n: usize, i: usize)
