@@ -1,57 +1,40 @@
--- The keys filled: with zeros, with the distances, and one by one with the distances and what the spaces weigh.
-use mathlib.Core.Path.{_≡_, refl, ap, _∙_}
+-- The keys filled: with the distances, or one by one with the distances and what the spaces weigh.
+use mathlib.Core.Path.{_≡_, ap, _∙_}
 use Prim.Native.Nat.{ℕ, _+_, _*_, _≤_, _<_}
 use mathlib.Core.List.{List}
 use native.Mathlib.Omega.{arith}
-use lib.ListN.{getD, set, getD-replicate}
+use lib.ListN.{length, getD, set}
 use lib.Seq.{getD-set-same, getD-set-other}
-use Rattle.regions.specs.Region.{ceiling, Kept, Filling, Copying}
+use Rattle.regions.specs.Region.{Kept, Copying}
 use Rattle.regions.proofs.Laws.{region-length, region-at, region-in}
-use Rattle.regions.proofs.Bounds.{ceiling-at}
+use Rattle.regions.proofs.Bounds.{ceiling-at, ceiling-each}
 use Rattle.regions.proofs.Frame.{kept-all, kept-then, kept-set, kept-less, kept-above}
 use Rattle.model.specs.Space.{spaceWeight}
 use Rattle.model.proofs.Bags.{Same, same, other, sameOr}
-use Rattle.work.specs.Areas.{Apart}
 use Rattle.work.specs.Views.{keysIn, keyIn, distancesIn, spacesIn}
 use Rattle.work.specs.declared.Areas.{Areas}
 use Rattle.order_graph.specs.Graph.{mostNodes}
 use Rattle.order_survey.specs.Survey.{farAway}
+use Rattle.order_place.specs.Place.{mostKey}
 use Rattle.order.specs.Try.{keyBy, Trying, Keying, Keyed}
-use Rattle.order.specs.declared.By.{By}
 use Rattle.order.specs.declared.By.the-variants as By
 
-asked-small : {a : Areas} {n root : ℕ} {w : List ℕ} (by : By) → Trying a n root by w → by ≡ By.Space → ceiling (spacesIn a w) ≤ mostNodes
-asked-small By.Readiness t e = absurd (let z : _≡_ {A = ℕ} 0 1 = cc in omega arith)
-asked-small By.Distance t e = absurd (let z : _≡_ {A = ℕ} 0 1 = cc in omega arith)
-asked-small By.Space t e = t .asked .small
-
-pub trying-keys : {a : Areas} {n root : ℕ} {by : By} {w : List ℕ} → Trying a n root by w → Keying a by w
-trying-keys {by = by} t =
+pub trying-keys : {a : Areas} {n root : ℕ} {w : List ℕ} → Trying a n root By.Space w → Keying a w
+trying-keys t =
     record {
       apart = t .surveyed .graph .apart;
       long = t .surveyed .graph .long;
       near = t .surveyed .near;
-      small = asked-small by t;
+      small = t .asked .small;
     }
 
-module _ {a : Areas} {by : By} {w w′ : List ℕ} (s : Apart a) where
-  pub keys-zero : by ≡ By.Readiness → Filling (a .keys) (a .nodes) 0 (a .nodes) w w′ → Keyed a by w w′
-  keys-zero e f = rw e record {
-    kept = kept-less (f .kept) (a .keys) (a .waiting) (omega arith) (omega arith);
-    keys = λ i h. rw (f .done) (getD-replicate (a .nodes) i 0 0 h);
-  }
-
-  pub keys-distances : by ≡ By.Distance → Copying (a .distances) (a .keys) (a .nodes) (a .nodes) w w′ → Keyed a by w w′
-  keys-distances e f = rw e record {
-    kept = kept-less (f .kept) (a .keys) (a .waiting) (omega arith) (omega arith);
-    keys = λ i h. rw (f .done);
-  }
-
-pub keying-spaces : {a : Areas} {by : By} {w : List ℕ} → Keying a by w → by ≡ By.Space → Keying a By.Space w
-keying-spaces s e = rw e at s
-
-pub keys-spaces : {a : Areas} {by : By} {w w′ : List ℕ} → by ≡ By.Space → Keyed a By.Space w w′ → Keyed a by w w′
-keys-spaces e k = rw e k
+pub keys-distances : {a : Areas} {n root : ℕ} {w w′ : List ℕ} → Trying a n root By.Distance w → Copying (a .distances) (a .keys) (a .nodes) (a .nodes) w w′ → Keyed a By.Distance w w′
+keys-distances {a} t f =
+    record {
+      kept = kept-less (f .kept) (a .keys) (a .waiting) (omega arith) (omega (arith, t .surveyed .graph .apart));
+      keys = λ i h. rw (f .done);
+      small = rw (f .done) (omega (arith, t .surveyed .near));
+    }
 
 -- ---- i nodes have their keys
 
@@ -63,7 +46,7 @@ pub record Weighs (a : Areas) (i : ℕ) (w₀ w : List ℕ) : Type 0 where
 pub weighs-none : (a : Areas) (w : List ℕ) → Weighs a 0 w w
 weighs-none a w = record { some = omega arith; kept = kept-all; done = λ j h. absurd (omega arith) }
 
-module _ {a : Areas} {i : ℕ} {w₀ w : List ℕ} (s : Keying a By.Space w₀) (f : Weighs a i w₀ w) where
+module _ {a : Areas} {i : ℕ} {w₀ w : List ℕ} (s : Keying a w₀) (f : Weighs a i w₀ w) where
   module _ (h : i < a .nodes) where
     distance-is : getD w (a .distances + i) 0 ≡ getD (distancesIn a w₀) i 0
     distance-is =
@@ -84,7 +67,7 @@ module _ {a : Areas} {i : ℕ} {w₀ w : List ℕ} (s : Keying a By.Space w₀) 
     pub weighs-small : getD w (a .spaces + i) 0 < mostNodes
     weighs-small =
         let long = region-length (a .spaces) (a .nodes) w₀ (omega (arith, s .apart, s .long)) in
-        omega (arith, space-is, s .small refl, ceiling-at (spacesIn a w₀) i (omega (arith, long)))
+        omega (arith, space-is, s .small, ceiling-at (spacesIn a w₀) i (omega (arith, long)))
 
     abbrev key : ℕ
     key = getD w (a .distances + i) 0 + getD w (a .spaces + i) 0 * spaceWeight
@@ -104,4 +87,23 @@ module _ {a : Areas} {i : ℕ} {w₀ w : List ℕ} (s : Keying a By.Space w₀) 
         go j k (other d _ _) = getD-set-other (keysIn a w) i j key 0 d ∙ f .done j (omega (arith, d))
 
   pub weighs-all : a .nodes ≤ i → Keyed a By.Space w₀ w
-  weighs-all h = record { kept = f .kept; keys = λ j k. f .done j (omega arith) }
+  weighs-all h =
+      let inside : a .end ≤ length w₀ = s .long in
+      let long = region-length (a .keys) (a .nodes) w (omega (arith, s .apart, inside, f .kept .long)) in
+      record {
+        kept = f .kept;
+        keys = λ j k. f .done j (omega arith);
+        small = ceiling-each (keysIn a w) mostKey (λ j k. rw (f .done j (omega arith)) (key-small j (omega (arith, long))));
+      }
+    where
+      key-small : (j : ℕ) → j < a .nodes → keyBy By.Space a w₀ j < mostKey
+      key-small j k =
+          let far = region-length (a .distances) (a .nodes) w₀ (omega (arith, s .apart, s .long)) in
+          let numbers = region-length (a .spaces) (a .nodes) w₀ (omega (arith, s .apart, s .long)) in
+          omega (
+            arith,
+            s .near,
+            s .small,
+            ceiling-at (distancesIn a w₀) j (omega (arith, far)),
+            ceiling-at (spacesIn a w₀) j (omega (arith, numbers)),
+          )

@@ -1,7 +1,8 @@
-pub mod Counted
+pub mod Agree
 pub mod Keys
 pub mod Orders
 pub mod Spaces
 pub mod Placed
 pub mod Looked
+pub mod Placing
 pub mod Trying

@@ -16,7 +16,7 @@ use Rattle.order_graph.specs.Graph.{graphOn}
 use Rattle.order.specs.Try.{keyBy, orderWith, Trying, Keyed}
 use Rattle.order.specs.declared.By.{By}
 use Rattle.order.specs.declared.By.the-variants as By
-use Rattle.order.proofs.Counted.{orders-agree}
+use Rattle.order.proofs.Agree.{orders-agree}
 
 -- the key of an object
 abbrev keyWith : By → Graph → ℕ → ℕ → ℕ

@@ -8,93 +8,66 @@ use Rattle.regions.proofs.Laws.{region-length}
 use Rattle.regions.proofs.Frame.{kept-then, kept-less, kept-above}
 use Rattle.model.specs.Bag.{count}
 use Rattle.model.specs.Graph.{Graph}
-use Rattle.work.specs.Views.{orderIn, placesIn, incomingIn, keyIn}
+use Rattle.work.specs.Views.{orderIn, placesIn}
 use Rattle.work.specs.declared.Areas.{Areas}
 use Rattle.order_graph.specs.Graph.{graphIn, graphOn}
 use Rattle.order_graph.proofs.Links.{front-kept, stands-kept}
 use Rattle.order_survey.specs.Survey.{Surveyed}
-use Rattle.order_place.specs.Run.{Starting, OrderFound}
 use Rattle.order_fit.specs.Fit.{placesFrom, look, Placing, PlacedAt}
 use Rattle.order_fit.specs.declared.Look.{Look}
-use Rattle.order.specs.Try.{orderWith, Trying, Keyed, Tried}
+use Rattle.order.specs.Try.{orderWith, Trying, Ordered, Tried}
 use Rattle.order.specs.declared.By.{By}
-use Rattle.order.proofs.Counted.{run-order}
-use Rattle.order.proofs.Orders.{with-once, with-closed, with-low, filled-order}
+use Rattle.order.proofs.Orders.{with-once, with-closed, with-low}
 use Rattle.order.proofs.Placed.{places-placed}
 use Rattle.order.proofs.Looked.{look-unfit}
 
--- ---- the order by them
-
-module _ {a : Areas} {n root : ℕ} {by : By} {w w₁ : List ℕ} (q : Trying a n root by w) (k : Keyed a by w w₁) where
+module _ {a : Areas} {n root : ℕ} {by : By} {w : List ℕ} (q : Trying a n root by w) {r : ℕ} {w₂ : List ℕ} (o : Ordered a n root by r w w₂) where
   abbrev t : Surveyed a n root w
   t = q .surveyed
 
   abbrev g : Graph
   g = graphOn a n w
 
-  incoming-same : incomingIn a w₁ ≡ incomingIn a w
-  incoming-same = kept-above (k .kept) (a .incoming) (a .nodes) (omega arith)
+  graph₂ : graphOn a n w₂ ≡ g
+  graph₂ = ap (graphIn a n) (front-kept (t .graph) (o .kept) (omega arith))
 
-  graph₁ : graphOn a n w₁ ≡ g
-  graph₁ = ap (graphIn a n) (front-kept (t .graph) (k .kept) (omega arith))
+  pub try-placing : Placing a n r w₂
+  try-placing = record { graph = stands-kept (t .graph) (o .kept) (omega arith); nodes = o .nodes }
 
-  pub try-starting : Starting a n root w₁
-  try-starting =
-      record {
-        graph = stands-kept (t .graph) (k .kept) (omega arith);
-        inside = t .inside;
-        free = rw incoming-same (t .incoming root ∙ t .rooted .root-free);
-      }
+  -- ---- its places, and the first link that does not fit
 
-  module _ {r : ℕ} {w₂ : List ℕ} (o : OrderFound a n root r w₁ w₂) where
-    graph₂ : graphOn a n w₂ ≡ g
-    graph₂ = ap (graphIn a n) (front-kept (try-starting .graph) (o .kept) (omega arith)) ∙ graph₁
+  module _ {w₃ : List ℕ} (s : PlacedAt a n r w₂ w₃) where
+    graph₃ : graphOn a n w₃ ≡ g
+    graph₃ = ap (graphIn a n) (front-kept (try-placing .graph) (s .kept) (omega arith)) ∙ graph₂
 
-    pub try-placing : Placing a n r w₂
-    try-placing = record { graph = stands-kept (try-starting .graph) (o .kept) (omega arith); nodes = o .nodes }
+    same-order : orderIn a r w₃ ≡ orderIn a r w₂
+    same-order = kept-above (s .kept) (a .order) r (omega arith)
 
-    order₂ : orderIn a r w₂ ≡ orderWith by g root
-    order₂ =
-        o .order
-        ∙ rw (graph₁, incoming-same, run-order g root (t .rooted) (keyIn a w₁) (a .nodes) (incomingIn a w) (omega arith) (t .incoming)) (filled-order q k)
+    order₃ : orderIn a r w₃ ≡ orderWith by g root
+    order₃ = same-order ∙ o .order
 
-    -- ---- its places, and the first link that does not fit
+    pub try-look : Placing a n r w₃
+    try-look =
+        record {
+          graph = stands-kept (try-placing .graph) (s .kept) (omega arith);
+          nodes = record { few = o .nodes .few; ids = rw same-order (o .nodes .ids) };
+        }
 
-    module _ {w₃ : List ℕ} (s : PlacedAt a n r w₂ w₃) where
-      graph₃ : graphOn a n w₃ ≡ g
-      graph₃ = ap (graphIn a n) (front-kept (try-placing .graph) (s .kept) (omega arith)) ∙ graph₂
+    places₃ : placesIn a w₃ ≡ placesFrom g (orderWith by g root) 0 (placesIn a w₂)
+    places₃ = s .places ∙ rw (graph₂, o .order)
 
-      same-order : orderIn a r w₃ ≡ orderIn a r w₂
-      same-order = kept-above (s .kept) (a .order) r (omega arith)
+    inside : (c : ℕ) → 0 < count c (orderWith by g root) → c < length (placesIn a w₂)
+    inside c h =
+        omega (arith, with-low by g (t .rank) (t .ranked) root (t .rooted) c h, region-length (a .places) (a .nodes) w₂ (omega (arith, try-placing .graph .long, try-placing .graph .apart)))
 
-      order₃ : orderIn a r w₃ ≡ orderWith by g root
-      order₃ = same-order ∙ order₂
-
-      pub try-look : Placing a n r w₃
-      try-look =
-          record {
-            graph = stands-kept (try-placing .graph) (s .kept) (omega arith);
-            nodes = record { few = o .nodes .few; ids = rw same-order (o .nodes .ids) };
-          }
-
-      places₃ : placesIn a w₃ ≡ placesFrom g (orderWith by g root) 0 (placesIn a w₂)
-      places₃ = s .places ∙ rw (graph₂, order₂)
-
-      inside : (c : ℕ) → 0 < count c (orderWith by g root) → c < length (placesIn a w₂)
-      inside c h =
-          omega (arith, with-low by g (t .rank) (t .ranked) root (t .rooted) c h, region-length (a .places) (a .nodes) w₂ (omega (arith, try-placing .graph .long, try-placing .graph .apart)))
-
-      pub try-all : {x : Look} → x ≡ look (graphOn a n w₃) (placesIn a w₃) (orderIn a r w₃) → Tried a n root by r x w w₃
-      try-all e =
-          let once = with-once by g (t .rank) (t .ranked) root (t .rooted) in
-          let closed = with-closed by g (t .rank) (t .ranked) root (t .rooted) in
-          record {
-            kept =
-                kept-then (kept-less (k .kept) (a .keys) (a .incoming) (omega arith) (omega arith))
-                (kept-then (kept-less (o .kept) (a .keys) (a .incoming) (omega arith) (omega arith))
-                (kept-less (s .kept) (a .keys) (a .incoming) (omega arith) (omega arith)));
-            nodes = try-look .nodes;
-            order = order₃;
-            places = λ i h. rw places₃ (places-placed g (orderWith by g root) (placesIn a w₂) once inside i h);
-            found = e ∙ rw (graph₃, order₃, places₃, look-unfit g (orderWith by g root) (placesIn a w₂) once inside closed);
-          }
+    pub try-all : {x : Look} → x ≡ look (graphOn a n w₃) (placesIn a w₃) (orderIn a r w₃) → Tried a n root by r x w w₃
+    try-all e =
+        let once = with-once by g (t .rank) (t .ranked) root (t .rooted) in
+        let closed = with-closed by g (t .rank) (t .ranked) root (t .rooted) in
+        record {
+          kept = kept-then (o .kept) (kept-less (s .kept) (a .keys) (a .incoming) (omega arith) (omega arith));
+          nodes = try-look .nodes;
+          order = order₃;
+          places = λ i h. rw places₃ (places-placed g (orderWith by g root) (placesIn a w₂) once inside i h);
+          found = e ∙ rw (graph₃, order₃, places₃, look-unfit g (orderWith by g root) (placesIn a w₂) once inside closed);
+        }

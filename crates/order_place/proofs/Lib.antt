@@ -1,4 +1,8 @@
-pub mod Releasing
-pub mod Taking
-pub mod Going
+pub mod Turns
 pub mod Starting
+pub mod Between
+pub mod Queue
+pub mod Lent
+pub mod Heaps
+pub mod Rooting
+pub mod Heaping

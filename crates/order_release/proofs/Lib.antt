@@ -1,4 +1,2 @@
-pub mod Least
-pub mod Removing
-pub mod Taking
 pub mod Releasing
+pub mod Unlinking

@@ -12,6 +12,12 @@ ceiling-at [] i h = omega arith
 ceiling-at (x ∷ l) zero h = omega arith
 ceiling-at (x ∷ l) (suc i) h = omega (arith, ceiling-at l i (omega arith))
 
+-- a bound of each element is one of all
+pub ceiling-each : (l : List ℕ) (b : ℕ) → ((i : ℕ) → i < length l → getD l i 0 < b) → ceiling l ≤ b
+unfolding ceiling
+ceiling-each [] b h = omega arith
+ceiling-each (x ∷ l) b h = omega (arith, h 0 (omega arith), ceiling-each l b (λ i k. h (suc i) (omega arith)))
+
 pub ceiling-set : (l : List ℕ) (i v : ℕ) → ceiling (set l i v) ≤ max (v + 1) (ceiling l)
 unfolding ceiling
 ceiling-set [] i v = omega arith

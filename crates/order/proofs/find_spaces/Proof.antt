@@ -1,5 +1,5 @@
-use Rattle.order.proofs.Spaces.{distance-spacing, spaces-found}
 -- `find_spaces` meets its contract: the shortest-distance order has parents before their children.
+use Rattle.order.proofs.Spaces.{distance-spacing, spaces-found}
 use borrow.Author.Needs.{needs}
 use Rattle.order.proofs.find_spaces.Statement.{statement}
 use Rattle.order.proofs.find_spaces.Tie as tie

@@ -1,7 +1,7 @@
+-- `weigh_spaces` meets its contract: a store at one node leaves the keys of the others, and no sum wraps.
 use Rattle.order.proofs.Keys.{Weighs, weighs-none, weighs-near, weighs-small, weighs-next, weighs-all}
 use native.Mathlib.Omega.{arith}
 use Prim.Native.Nat.{_-_}
--- `weigh_spaces` meets its contract: a store at one node leaves the keys of the others, and no sum wraps.
 use borrow.Author.Needs.{needs}
 use Rattle.order.proofs.weigh_spaces.Statement.{statement}
 use Rattle.order.proofs.weigh_spaces.Tie as tie

@@ -2,9 +2,9 @@
 use native.Mathlib.Omega.{arith}
 use lib.ListN.{length-set}
 use borrow.Author.Needs.{needs}
-use Rattle.order_ready.proofs.Releasing.{release-none, release-some, release-last, release-room}
-use Rattle.order_ready.proofs.release.Statement.{statement}
-use Rattle.order_ready.proofs.release.Tie as tie
+use Rattle.order_release.proofs.Releasing.{release-none, release-some, release-last, release-room}
+use Rattle.order_release.proofs.release.Statement.{statement}
+use Rattle.order_release.proofs.release.Tie as tie
 
 add-j : tie.Need-add-j
 add-j c = search needs
@@ -16,7 +16,7 @@ slice-read-v : tie.Need-slice-read-v
 slice-read-v c = search needs
 
 returns : tie.Need-returns
-returns c = (search needs, release-none (c .before .before .before .pre) (c .if1 .taken))
+returns c = (omega arith, search needs, release-none (c .before .before .before .pre) (c .if1 .taken))
 
 sub-work : tie.Need-sub-work
 sub-work c = search needs
@@ -45,13 +45,13 @@ same-length c = search needs
 returns-2 : tie.Need-returns-2
 returns-2 c =
     let pre = c .before .before .before .before .pre in
-    (omega (arith, release-room pre (c .if2 .taken)), release-last pre (c .if2 .taken))
+    (omega arith, omega (arith, release-room pre (c .if2 .taken)), release-last pre (c .if2 .taken))
 
 same-length-2 : tie.Need-same-length-2
 same-length-2 c = search needs
 
 returns-3 : tie.Need-returns-3
-returns-3 c = (search needs, release-some (c .before .before .before .before .pre) (c .if2 .left))
+returns-3 c = (omega arith, search needs, release-some (c .before .before .before .before .pre) (c .if2 .left))
 
 pub release-spec : {M : Type 1} → statement M
 release-spec =

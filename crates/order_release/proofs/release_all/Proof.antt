@@ -2,15 +2,15 @@
 use Prim.Native.Nat.{_-_}
 use native.Mathlib.Omega.{arith}
 use borrow.Author.Needs.{needs}
-use Rattle.order_place.proofs.Releasing.{Unlinking, unlinking-none, unlinking-link, unlinking-next, unlinking-all}
-use Rattle.order_place.proofs.release_all.Statement.{statement}
-use Rattle.order_place.proofs.release_all.Tie as tie
+use Rattle.order_release.proofs.Unlinking.{Unlinking, unlinking-none, unlinking-link, unlinking-next, unlinking-all}
+use Rattle.order_release.proofs.release_all.Statement.{statement}
+use Rattle.order_release.proofs.release_all.Tie as tie
 
 abbrev Inv-loop : tie.InvT-loop
-Inv-loop work₀ a n i k count left₀ t₀ work left t = Unlinking a n i t k left work₀ work
+Inv-loop work₀ a at n i m count arrived₀ t₀ work arrived t = Unlinking a at n i t m arrived work₀ work
 
 abbrev μ-loop : tie.MeasureT-loop
-μ-loop work₀ a n i k count left₀ t₀ work left t = count - t
+μ-loop work₀ a at n i m count arrived₀ t₀ work arrived t = count - t
 
 link-count-requires : tie.Need-link-count-requires Inv-loop μ-loop
 link-count-requires c κs = search needs
@@ -40,7 +40,7 @@ loop-again c =
     let turn = c .before .before .before .before .before .before .before in
     let pre = turn .before .before .before .before .pre in
     let release = c .before .before .release .ensures in
-    unlinking-next (pre .1) (pre .0) (turn .loop .inv) (omega arith) (c .before .before .before .before .field-at .ensures) (release .1) (release .0)
+    unlinking-next (pre .1) (pre .0) (turn .loop .inv) (omega arith) (c .before .before .before .before .field-at .ensures) (release .2) (release .0) (release .1)
 
 same-length : tie.Need-same-length Inv-loop μ-loop
 same-length c = search needs
