@@ -3,11 +3,12 @@
 //! * [`Pair`] runs each call on both and compares all that it tells and leaves.
 //! * [`claims`] checks what the history says of a call, [`Checked`] both.
 //! * [`met`] counts inner starts.
-//! * [`shapes`], [`groups`] and [`largest`] make graphs, [`made`] stores that
+//! * [`shapes`], [`groups`], [`largest`] and [`decided`] make graphs, [`made`] stores that
 //!   hold one, [`tamper`] damaged stores.
 
 pub mod checked;
 pub mod claims;
+pub mod decided;
 pub mod fenced;
 pub mod groups;
 pub mod largest;

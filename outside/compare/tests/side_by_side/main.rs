@@ -11,6 +11,7 @@ mod hopeless;
 mod largest;
 mod made;
 mod needs;
+mod plain;
 mod spaces;
 mod tampered;
 mod weights;
