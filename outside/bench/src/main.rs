@@ -7,6 +7,7 @@
 mod closing;
 mod largest;
 mod looking;
+mod ordering;
 mod packing;
 mod putting;
 mod sessions;
@@ -53,6 +54,7 @@ fn main() {
         "16 MiB store", "proved µs", "reference", "sum", "GB/s", "sum GB/s", "share"
     );
     looking::lines().iter().for_each(print_looking);
+    ordering::print();
 }
 
 /// Speeds in gigabytes a second, of what is looked at and of what is summed.
