@@ -1,7 +1,7 @@
 //! Packs by each of the three orders beside those of the plain packer, and what
-//! an order adds where the one before does not fit.
+//! each order alone takes where the one before does not fit.
 
-use crate::timing::least;
+use crate::timing::microseconds;
 use bindings::calls;
 use compare::decided::{self, Order, ORDERS};
 use compare::made::{self, Room};
@@ -13,12 +13,12 @@ use reference::random::Numbers;
 use reference::sound::sound;
 
 const COUNTS: [usize; 2] = [4_000, 16_000];
-const TURNS: usize = 30;
+const TURNS: usize = 60;
 
 struct Shape {
     name: &'static str,
     family: Family,
-    /// Links for each object, or as many as the family has.
+    /// Links for each object; a family that has more keeps them.
     links: usize,
 }
 
@@ -32,7 +32,7 @@ const fn shape(name: &'static str, family: Family, links: usize) -> Shape {
 
 const SHAPES: [Shape; 6] = [
     shape("chain", Family::Chain, 1),
-    shape("chain of four links each", Family::Chain, 4),
+    shape("chain, four links each", Family::Chain, 4),
     shape("fan", Family::Fan, 1),
     shape("shared leaves", Family::Shared, 4),
     shape("random graph", Family::Near, 4),
@@ -42,7 +42,7 @@ const SHAPES: [Shape; 6] = [
 /// Microseconds of the proved library and of the plain packer.
 type Times = [f64; 2];
 
-/// Times of one thing, by the number of objects.
+/// Times by the number of objects.
 struct Line {
     what: String,
     times: [Times; 2],
@@ -50,10 +50,10 @@ struct Line {
 
 pub fn print() {
     println!(
-        "\n{:<44}{:>30}{:>32}{:>18}",
-        "", "4,000 objects", "16,000 objects", "growth"
+        "\n{:<46}{:>32}{:>32}{:>16}",
+        "packs beside plain Rust", "4,000 objects", "16,000 objects", "growth"
     );
-    print!("{:<44}", "");
+    print!("{:<46}", "");
     for _ in COUNTS {
         print!("{:>12}{:>12}{:>8}", "proved µs", "plain Rust", "ratio");
     }
@@ -64,7 +64,7 @@ pub fn print() {
 }
 
 fn print_line(line: &Line) {
-    print!("{:<44}", line.what);
+    print!("{:<46}", line.what);
     for [proved, plain] in line.times {
         print!("{proved:>12.1}{plain:>12.1}{:>8.2}", proved / plain);
     }
@@ -72,25 +72,29 @@ fn print_line(line: &Line) {
     println!("{:>8.1}{:>8.1}", large[0] / small[0], large[1] / small[1]);
 }
 
-/// Whole packs by each order, and the differences between them.
+/// Whole packs, and the differences from one order to the next.
 fn lines(shape: &Shape) -> Vec<Line> {
-    let name = shape.name;
-    let packs = ORDERS.map(|order| COUNTS.map(|count| packed(shape, count, order)));
-    let whole = ORDERS.iter().zip(packs).map(|(order, times)| Line {
-        what: format!("{name}, {}", order_name(*order)),
-        times,
-    });
-    let added = ORDERS[1..]
-        .iter()
-        .zip(packs.windows(2))
-        .map(|(order, two)| Line {
-            what: format!("{name}, what {} adds", order_name(*order)),
-            times: [0, 1].map(|count| less(two[1][count], two[0][count])),
+    let packs = COUNTS.map(|count| timed(ORDERS.map(|order| Case::new(shape, count, order))));
+    let mut whole = Vec::new();
+    let mut alone = Vec::new();
+    for (at, order) in ORDERS.into_iter().enumerate() {
+        let what = format!("{}, {}", shape.name, name(order));
+        if at > 0 {
+            alone.push(Line {
+                what: format!("{what} alone"),
+                times: packs.map(|times| less(times[at], times[at - 1])),
+            });
+        }
+        whole.push(Line {
+            what,
+            times: packs.map(|times| times[at]),
         });
-    whole.chain(added).collect()
+    }
+    whole.extend(alone);
+    whole
 }
 
-fn order_name(order: Order) -> &'static str {
+fn name(order: Order) -> &'static str {
     match order {
         Order::Kahn => "kahn order",
         Order::Distance => "distance order",
@@ -98,53 +102,76 @@ fn order_name(order: Order) -> &'static str {
     }
 }
 
-fn less(of: Times, before: Times) -> Times {
-    [of[0] - before[0], of[1] - before[1]]
+fn less(times: Times, before: Times) -> Times {
+    [times[0] - before[0], times[1] - before[1]]
 }
 
-/// A pack of which this order is the first that fits.
-fn packed(shape: &Shape, count: usize, order: Order) -> Times {
-    let mut numbers = Numbers::new(1);
-    let links = shape.links * count;
-    let graph = decided::graph(order, shape.family, count, links, &mut numbers);
-    let room = Room {
-        pieces: count as u32,
-        links: shapes::links(&graph) as u32,
-        store: shapes::bytes(&graph),
-    };
-    let stores = made::stores(&graph, room, &mut numbers);
-    let root = count as u32 - 1;
-    assert_eq!(first_fit(&stores, root), Some(order));
-    timed(&stores, root, bindings::work_need(room.pieces, room.links))
+/// A pack of which an order is the first that fits.
+struct Case {
+    stores: Stores,
+    root: u32,
+    work: Vec<u64>,
+    table: Vec<u8>,
+    plain_table: Vec<u8>,
 }
 
-fn first_fit(stores: &Stores, root: u32) -> Option<Order> {
-    let graph = Graph::of(&sound(&stores.bytes, &stores.records).expect("sound"));
-    let placings = [orders::plain, orders::by_distance, orders::by_spaces];
-    let fits = placings.map(|place| place(&graph, root as usize).overflow(&graph).is_none());
-    ORDERS
-        .into_iter()
-        .zip(fits)
-        .find_map(|(order, fits)| fits.then_some(order))
+impl Case {
+    fn new(shape: &Shape, count: usize, order: Order) -> Case {
+        let mut numbers = Numbers::new(1);
+        let links = shape.links * count;
+        let graph = decided::graph(order, shape.family, count, links, &mut numbers);
+        let room = Room {
+            pieces: count as u32,
+            links: shapes::links(&graph) as u32,
+            store: shapes::bytes(&graph),
+        };
+        let case = Case {
+            stores: made::stores(&graph, room, &mut numbers),
+            root: count as u32 - 1,
+            work: vec![0; bindings::work_need(room.pieces, room.links)],
+            table: vec![0; room.store],
+            plain_table: vec![0; room.store],
+        };
+        assert_eq!(case.first_fit(), Some(order));
+        case
+    }
+
+    fn first_fit(&self) -> Option<Order> {
+        let Stores { bytes, records } = &self.stores;
+        let graph = Graph::of(&sound(bytes, records).expect("sound"));
+        let placings = [orders::plain, orders::by_distance, orders::by_spaces];
+        let fits = |place: fn(&Graph, usize) -> orders::Placing| {
+            place(&graph, self.root as usize).overflow(&graph).is_none()
+        };
+        let first = placings.into_iter().position(fits)?;
+        Some(ORDERS[first])
+    }
+
+    fn pack(&mut self) {
+        let Stores { bytes, records } = &self.stores;
+        let answer = calls::pack(bytes, records, self.root, &mut self.table, &mut self.work);
+        assert_eq!(answer.number, 0);
+    }
+
+    fn pack_plainly(&mut self) {
+        let Stores { bytes, records } = &self.stores;
+        let length = plain::pack(bytes, records, self.root, &mut self.plain_table);
+        assert!(length.is_ok());
+    }
 }
 
-/// Output and work memory are lent again in every turn, as a caller would; the
-/// plain packer gets its own memory from the allocator.
-fn timed(stores: &Stores, root: u32, work: usize) -> Times {
-    let Stores { bytes, records } = stores;
-    let (mut table, mut work) = (vec![0; bytes.len()], vec![0; work]);
-    let mut plain_table = table.clone();
-    let times = least(
-        TURNS,
-        || (),
-        [
-            &mut |()| {
-                let answer = calls::pack(bytes, records, root, &mut table, &mut work);
-                assert_eq!(answer.number, 0);
-            },
-            &mut |()| assert!(plain::pack(bytes, records, root, &mut plain_table).is_ok()),
-        ],
-    );
-    assert!(table == plain_table);
+/// All packs in turn, so that a busy machine slows all. The same memory is lent in
+/// every turn, as a caller would; the plain packer allocates its own besides.
+fn timed(mut cases: [Case; 3]) -> [Times; 3] {
+    let mut times = [[f64::MAX; 2]; 3];
+    for _ in 0..TURNS {
+        for (case, times) in cases.iter_mut().zip(&mut times) {
+            times[0] = times[0].min(microseconds(|| case.pack()));
+            times[1] = times[1].min(microseconds(|| case.pack_plainly()));
+        }
+    }
+    for case in cases {
+        assert!(case.table == case.plain_table);
+    }
     times
 }

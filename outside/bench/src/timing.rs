@@ -30,10 +30,15 @@ pub fn least<M, const N: usize>(
     for _ in 0..turns {
         for (time, call) in times.iter_mut().zip(&mut calls) {
             let mut memory = reset();
-            let began = Instant::now();
-            call(&mut memory);
-            *time = time.min(began.elapsed().as_secs_f64() * 1e6);
+            *time = time.min(microseconds(|| call(&mut memory)));
         }
     }
     times
+}
+
+/// How long one call takes.
+pub fn microseconds(call: impl FnOnce()) -> f64 {
+    let began = Instant::now();
+    call();
+    began.elapsed().as_secs_f64() * 1e6
 }
