@@ -14,7 +14,7 @@ use Rattle.work.specs.Areas.{Apart}
 use Rattle.work.specs.Views.{keyIn, orderIn, placesIn, distancesIn, spacesIn}
 use Rattle.work.specs.declared.Areas.{Areas}
 use Rattle.order_graph.specs.Graph.{mostNodes, graphOn}
-use Rattle.order_survey.specs.Survey.{farAway, Surveyed}
+use Rattle.order_survey.specs.Survey.{farAway, Surveyed, Distanced}
 use Rattle.order_place.specs.Place.{SmallKeys, OrderIds}
 use Rattle.order_fit.specs.declared.Look.{Look}
 use Rattle.order_fit.specs.declared.Look.the-variants.{Fits, Over}
@@ -40,7 +40,7 @@ abbrev pub lookOf : List Overflow → Look
 lookOf [] = Fits
 lookOf (u ∷ us) = Over u
 
--- ---- what an order asks: the survey, and the one by spaces that they are numbered
+-- ---- what an order asks: the survey; those by distances that they are known, and the one by spaces that these are numbered
 
 pub record Numbered (a : Areas) (n root : ℕ) (w : List ℕ) : Type 0 where
   pub numbers :
@@ -50,8 +50,8 @@ pub record Numbered (a : Areas) (n root : ℕ) (w : List ℕ) : Type 0 where
 
 abbrev pub Asked : By → Areas → ℕ → ℕ → List ℕ → Type 0
 Asked By.Readiness a n root w = Unit {0}
-Asked By.Distance a n root w = Unit {0}
-Asked By.Space a n root w = Numbered a n root w
+Asked By.Distance a n root w = Distanced a n root w
+Asked By.Space a n root w = Distanced a n root w × Numbered a n root w
 
 pub record Trying (a : Areas) (n root : ℕ) (by : By) (w : List ℕ) : Type 0 where
   pub surveyed : Surveyed a n root w

@@ -1,5 +1,5 @@
--- docs/RULES.md, 7.1 and 7.4, in the work memory, once for a root: the line of the nodes that it reaches, parents before their children; how many
--- fields of those lead to each node; the distances; and the length of the table.
+-- docs/RULES.md, 7.1 and 7.4, in the work memory. Once for a root: the line of the nodes that it reaches, parents before their children; how many
+-- fields of those lead to each node; and the length of the table. Along such a line: the distances.
 use Prim.Native.Nat.{ℕ, zero, suc, _+_, _*_, _≤_, _<_}
 use mathlib.Core.Path.{_≡_}
 use mathlib.Core.List.{List, [], _∷_, _++_}
@@ -9,7 +9,7 @@ use Rattle.regions.specs.Region.{ceiling, Kept}
 use Rattle.lists.specs.Lists.{pick}
 use Rattle.model.specs.Object.{Link}
 use Rattle.model.specs.Bag.{count}
-use Rattle.model.specs.Graph.{Graph, waits, reached, Ranked, Rooted}
+use Rattle.model.specs.Graph.{Graph, waits, reached, Ranked, Acyclic, Rooted, ParentsFirst}
 use Rattle.model.specs.Distance.{weight, relax, relaxAll, distancesBy, distance}
 use Rattle.model.specs.Table.{tableLength}
 use Rattle.work.specs.declared.Areas.{Areas}
@@ -96,8 +96,7 @@ pub record DistancesSet (a : Areas) (n root r : ℕ) (w w′ : List ℕ) : Type 
   pub distances : distancesIn a w′ ≡ distancesBy farAway (weight (graphOn a n w)) (graphOn a n w) (lineIn a r w) (a .nodes) root
   pub near : ceiling (distancesIn a w′) ≤ farAway + 1
 
--- ---- the whole, by the model's definitions. What the orders lean on is that the root's nodes are all there, that children rank below their parents, and
--- that no word of the distances is past `farAway`
+-- ---- the whole, by the model's definitions. What the orders lean on is that the root's nodes are all there, and that children rank below their parents
 
 pub record Surveyed (a : Areas) (n root : ℕ) (w : List ℕ) : Type 0 where
   pub graph : Stands a n w
@@ -106,10 +105,27 @@ pub record Surveyed (a : Areas) (n root : ℕ) (w : List ℕ) : Type 0 where
   pub ranked : Ranked rank (graphOn a n w)
   pub rooted : Rooted (graphOn a n w) (reached (graphOn a n w) root) root
   pub incoming : (c : ℕ) → getD (incomingIn a w) c 0 ≡ waits (graphOn a n w) (reached (graphOn a n w) root) c
+
+pub record Measured (a : Areas) (n root length : ℕ) (w w′ : List ℕ) : Type 0 where
+  pub kept : Kept (a .line) (a .distances) w w′
+  pub surveyed : Surveyed a n root w′
+  pub size : length ≡ tableLength (graphOn a n w) root
+
+-- ---- the distances, along any line of what the root reaches that has parents before their children
+
+pub record Lines (a : Areas) (n root r : ℕ) (w : List ℕ) : Type 0 where
+  pub surveyed : Surveyed a n root w
+  pub acyclic : Acyclic (graphOn a n w)
+  pub few : r ≤ a .nodes
+  pub ids : ceiling (lineIn a r w) ≤ n
+  pub same : (c : ℕ) → count c (lineIn a r w) ≡ count c (reached (graphOn a n w) root)
+  pub first : ParentsFirst (graphOn a n w) (lineIn a r w)
+
+-- each reached node's is known, and no word of theirs is past `farAway`
+pub record Distanced (a : Areas) (n root : ℕ) (w : List ℕ) : Type 0 where
   pub distances : (c : ℕ) → 0 < count c (reached (graphOn a n w) root) → getD (distancesIn a w) c 0 ≡ distance (graphOn a n w) root c
   pub near : ceiling (distancesIn a w) ≤ farAway + 1
 
-pub record Measured (a : Areas) (n root length : ℕ) (w w′ : List ℕ) : Type 0 where
-  pub kept : Kept (a .line) (a .end) w w′
-  pub surveyed : Surveyed a n root w′
-  pub size : length ≡ tableLength (graphOn a n w) root
+pub record DistancesFound (a : Areas) (n root : ℕ) (w w′ : List ℕ) : Type 0 where
+  pub kept : Kept (a .distances) (a .end) w w′
+  pub distanced : Distanced a n root w′

@@ -5,6 +5,7 @@ use mathlib.Core.List.{List, _++_}
 use mathlib.Core.Bool.{Bool, true, _&&_}
 use lib.ListN.{length, getD, take}
 use lib.Dec.{eqb, ltb, leb}
+use Rattle.regions.specs.Region.{Kept}
 use Rattle.model.specs.Object.{widthOk}
 use Rattle.model.specs.Words.{linkWords}
 use Rattle.model.specs.Graph.{Acyclic}
@@ -51,8 +52,13 @@ pub record Stood (a : Areas) (w : List ℕ) : Type 0 where
   pub some : 0 < a .nodes
   pub falls : Acyclic (graphOn a (a .nodes) w)
 
--- an order by its keys stands in the memory, and the next can be tried
-pub record Shown (a : Areas) (by : By) (r : ℕ) (w : List ℕ) : Type 0 where
+-- an order stands in the memory, and the next can be tried
+pub record Shown (a : Areas) (by : By) (r : ℕ) (w w′ : List ℕ) : Type 0 where
+  pub kept : Kept (a .keys) (a .incoming) w w′
+  pub nodes : OrderIds a (a .nodes) r w′
+  pub order : orderIn a r w′ ≡ orderWith by (graphOn a (a .nodes) w′) (a .nodes - 1)
+
+-- the last node's survey is done
+pub record Begun (a : Areas) (w : List ℕ) : Type 0 where
   pub surveyed : Surveyed a (a .nodes) (a .nodes - 1) w
-  pub nodes : OrderIds a (a .nodes) r w
-  pub order : orderIn a r w ≡ orderWith by (graphOn a (a .nodes) w) (a .nodes - 1)
+  pub falls : Acyclic (graphOn a (a .nodes) w)

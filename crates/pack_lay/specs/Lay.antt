@@ -41,14 +41,15 @@ oneOrder b w root by = firstFit (graphOf (decode b w .closed)) (orderWith by (gr
 abbrev pub laterOrder : List ℕ → List ℕ → ℕ → Outcome
 laterOrder b w root = let g = graphOf (decode b w .closed) in firstFit g (distanceOrder g root) (spaceOrder g root ∷ [])
 
--- u came out: the look r tells it, its table is over the output, and of the work memory only the order's areas have changed
+-- u came out: the look r tells it, its table is over the output, and in the work memory the graph stands
 pub record Laid (b w : List ℕ) (a : Areas) (u : Outcome) (r : Look) (out out′ m m′ : List ℕ) : Type 0 where
-  pub kept : Kept (a .keys) (a .incoming) m m′
+  pub kept : Kept (a .keys) (a .end) m m′
   pub told : r ≡ lookIn u
   pub written : out′ ≡ over 0 (tableIn (decode b w) u) out
 
--- the same of one order, which stands in the work memory then
+-- the same of one order, which stands in the work memory then, and of which only the order's areas have changed
 pub record LaidOrder (b w : List ℕ) (s : State) (a : Areas) (root : ℕ) (by : By) (r : ℕ) (u : Look) (out out′ m m′ : List ℕ) : Type 0 where
   pub laid : Laid b w a (oneOrder b w root by) u out out′ m m′
+  pub kept : Kept (a .keys) (a .incoming) m m′
   pub nodes : OrderIds a (s .closed) r m′
   pub order : orderIn a r m′ ≡ orderWith by (graphOf (decode b w .closed)) root
