@@ -1,5 +1,5 @@
 // What every order of a root starts from, found once: the line of the nodes that the root reaches, parents before their children; how many fields
-// of those lead to each node; the distances; and the length of the table.
+// of those lead to each node; and the length of the table. Then the distances, for the orders that go by them.
 use order_graph::edge_at;
 use order_graph::field_at;
 use order_graph::link_count;
@@ -13,7 +13,7 @@ ghost use Rattle.model.specs.Graph.{Acyclic};
 ghost use Rattle.work.specs.Views.{lineIn, distancesIn};
 ghost use Rattle.order_graph.specs.Graph.{graphOn, AtNode};
 ghost use Rattle.order_survey.specs.Survey.{unlined, linedOf, farAway};
-ghost use Rattle.order_survey.specs.Survey.{Counting, CountedAll, Lining, LineFound, Lowering, Lowered, Along, LoweredAlong, DistancesSet, Measured};
+ghost use Rattle.order_survey.specs.Survey.{Counting, CountedAll, Lining, LineFound, Lowering, Lowered, Along, LoweredAlong, DistancesSet, Measured, Lines, DistancesFound};
 
 // Beyond any distance.
 const FAR_AWAY: u64 = 281474976710656;
@@ -129,7 +129,7 @@ fn line_length(work: &[u64], a: Areas, n: usize, r: usize) -> u64
     sum
 }
 
-// Line, incoming fields and distances from the root; the answer is the length of the table.
+// Line and incoming fields from the root; the answer is the length of the table.
 pub fn survey(work: &mut [u64], a: Areas, n: usize, root: usize) -> u64
     requires { ⌜ AtNode a n root (now work) × Acyclic (graphOn a n (now work)) ⌝ }
     ensures { λ r. ⌜ Measured a n root r (now (work .entry)) (now (work .exit)) ⌝ }
@@ -137,6 +137,13 @@ pub fn survey(work: &mut [u64], a: Areas, n: usize, root: usize) -> u64
     let r = find_line(work, a, n, root);
     let first = a.incoming + root;
     work[first] = 0;
-    set_distances(work, a, n, root, r);
     line_length(work, a, n, r)
+}
+
+// The distances from the root, along the r nodes of a line.
+pub fn find_distances(work: &mut [u64], a: Areas, n: usize, root: usize, r: usize)
+    requires { ⌜ Lines a n root r (now work) ⌝ }
+    ensures { λ _. ⌜ DistancesFound a n root (now (work .entry)) (now (work .exit)) ⌝ }
+{
+    set_distances(work, a, n, root, r);
 }

@@ -6,9 +6,9 @@ ghost use Prim.Native.Nat.{_+_, _-_, _/_, _≤_};
 ghost use lib.ListN.{length};
 ghost use Rattle.model.specs.Words.{linkWords};
 ghost use Rattle.order_fit.specs.Fit.{Placing};
-ghost use Rattle.order_survey.specs.Survey.{Surveyed};
+ghost use Rattle.order_survey.specs.Survey.{Surveyed, Distanced};
 ghost use Rattle.order.specs.Try.{Trying};
-ghost use Rattle.orders.specs.Given.{given, Loaded, Stood, Shown};
+ghost use Rattle.orders.specs.Given.{given, Loaded, Stood, Shown, Begun};
 use answer::Overflow;
 use model::LINK_WORDS;
 use order::By;
@@ -16,6 +16,7 @@ use order::find_spaces;
 use order::try_order;
 use order_fit::Look;
 use order_fit::node_at;
+use order_survey::find_distances;
 use order_survey::survey;
 use report::print_next;
 use report::text;
@@ -76,7 +77,7 @@ fn print_look(look: Look) {
 // The answer is how many nodes are placed.
 fn show_order(name: &[u8], work: &mut [u64], a: Areas, by: By) -> usize
     requires { ⌜ Trying a (a .nodes) (a .nodes - 1) by (now work) ⌝ }
-    ensures { λ r. ⌜ Shown a by r (now (work .exit)) ⌝ }
+    ensures { λ r. ⌜ Shown a by r (now (work .entry)) (now (work .exit)) ⌝ }
 {
     let n = a.nodes;
     let tried = try_order(work, a, n, n - 1, by);
@@ -88,7 +89,7 @@ fn show_order(name: &[u8], work: &mut [u64], a: Areas, by: By) -> usize
 
 // The spaces go by the distance order.
 fn show_later(work: &mut [u64], a: Areas)
-    requires { ⌜ Surveyed a (a .nodes) (a .nodes - 1) (now work) ⌝ }
+    requires { ⌜ Surveyed a (a .nodes) (a .nodes - 1) (now work) × Distanced a (a .nodes) (a .nodes - 1) (now work) ⌝ }
 {
     let n = a.nodes;
     let placed = show_order(b"distance=", work, a, By::Distance);
@@ -96,13 +97,22 @@ fn show_later(work: &mut [u64], a: Areas)
     show_order(b"spaces=", work, a, By::Space);
 }
 
+// The distances are found along the kahn order.
+fn show_each(work: &mut [u64], a: Areas)
+    requires { ⌜ Begun a (now work) ⌝ }
+{
+    let n = a.nodes;
+    let placed = show_order(b"\nkahn=", work, a, By::Readiness);
+    find_distances(work, a, n, n - 1, placed);
+    show_later(work, a);
+}
+
 fn show_orders(work: &mut [u64], a: Areas)
     requires { ⌜ Stood a (now work) ⌝ }
 {
     let n = a.nodes;
     survey(work, a, n, n - 1);
-    show_order(b"\nkahn=", work, a, By::Readiness);
-    show_later(work, a);
+    show_each(work, a);
 }
 
 fn print_name(name: &[u8]) {

@@ -5,12 +5,14 @@ use order::Try;
 use order::find_spaces;
 use order::try_order;
 use order_fit::Look;
+use order_survey::find_distances;
 use pack_write::write_table;
 use work::Areas;
 ghost use lib.ListN.{length};
 ghost use Rattle.model.specs.Graph.{graphOf};
 ghost use Rattle.model.specs.Table.{arranged};
 ghost use Rattle.layout.specs.Decode.{decode};
+ghost use Rattle.order_survey.specs.Survey.{Distanced};
 ghost use Rattle.order.specs.Try.{Asked};
 ghost use Rattle.pack_lay.specs.Lay.{laterOrder, Laying, Laid, LaidOrder};
 
@@ -37,7 +39,7 @@ fn lay_order(
     tried
 }
 
-// The distance order, or where some offset does not fit in it the order by spaces.
+// The distance order, or where some offset does not fit in it the order by spaces. The distances are known.
 fn lay_later(
     store: &[u8],
     records: &[u32],
@@ -47,7 +49,7 @@ fn lay_later(
     out: &mut [u8],
     work: &mut [u64],
 ) -> Look
-    requires { ⌜ Laying (now store) (now records) s a root (length (now out)) (now work) ⌝ }
+    requires { ⌜ Laying (now store) (now records) s a root (length (now out)) (now work) × Distanced a (s .closed) root (now work) ⌝ }
     ensures { λ r. ⌜ Laid (now (store .entry)) (now (records .entry)) a (laterOrder (now (store .entry)) (now (records .entry)) root) r (now (out .entry)) (now (out .exit)) (now (work .entry)) (now (work .exit)) ⌝ }
 {
     let tried = lay_order(store, records, s, a, root, By::Distance, out, work);
@@ -60,7 +62,7 @@ fn lay_later(
     last.look
 }
 
-// The plain order, or where some offset does not fit in it a later one.
+// The plain order, or where some offset does not fit in it a later one. Distances are found along the plain order, and only then.
 pub fn lay_first_fit(
     store: &[u8],
     records: &[u32],
@@ -78,5 +80,6 @@ pub fn lay_first_fit(
     let Look::Over(_) = look else {
         return look;
     };
+    find_distances(work, a, s.closed, root, tried.placed);
     lay_later(store, records, s, a, root, out, work)
 }
