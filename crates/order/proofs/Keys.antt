@@ -24,8 +24,8 @@ trying-keys t =
     record {
       apart = t .surveyed .graph .apart;
       long = t .surveyed .graph .long;
-      near = t .surveyed .near;
-      small = t .asked .small;
+      near = t .asked .0 .near;
+      small = t .asked .1 .small;
     }
 
 pub keys-distances : {a : Areas} {n root : ℕ} {w w′ : List ℕ} → Trying a n root By.Distance w → Copying (a .distances) (a .keys) (a .nodes) (a .nodes) w w′ → Keyed a By.Distance w w′
@@ -33,7 +33,7 @@ keys-distances {a} t f =
     record {
       kept = kept-less (f .kept) (a .keys) (a .waiting) (omega arith) (omega (arith, t .surveyed .graph .apart));
       keys = λ i h. rw (f .done);
-      small = rw (f .done) (omega (arith, t .surveyed .near));
+      small = rw (f .done) (omega (arith, t .asked .near));
     }
 
 -- ---- i nodes have their keys

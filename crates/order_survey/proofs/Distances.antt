@@ -1,5 +1,5 @@
 -- What the distances in the work memory end as is the model's: both are least sums, and no path is as long as `farAway`.
-use mathlib.Core.Path.{_≡_, refl, _∙_}
+use mathlib.Core.Path.{_≡_, _∙_}
 use Prim.Native.Nat.{ℕ, suc, _+_, _-_, _*_, _≤_, _<_}
 use mathlib.Core.List.{List, []}
 use native.Mathlib.Omega.{arith}
@@ -10,10 +10,10 @@ use Rattle.big_endian.proofs.Laws.{capacity-rises}
 use Rattle.model.specs.Bag.{count}
 use Rattle.model.specs.Object.{Link, widest}
 use Rattle.model.specs.Words.{linkWords, linkAt}
-use Rattle.model.specs.Graph.{Graph, reached, Ranked, Acyclic}
+use Rattle.model.specs.Graph.{Graph, reached, Ranked, Acyclic, ParentsFirst}
 use Rattle.model.specs.Distance.{In, here, there, Path, start, along, Least, weight, distancesBy, distance}
 use Rattle.model.proofs.Slots.{width-most}
-use Rattle.model.proofs.Reach.{reached-rooted, reached-first, reached-low}
+use Rattle.model.proofs.Reach.{reached-rooted, reached-low}
 use Rattle.model.proofs.Distances.{in-kids, all-length, distance-least, distance-is-least}
 use Rattle.work.specs.declared.Areas.{Areas}
 use Rattle.order_graph.specs.Graph.{graphIn, linksFrom, linksAt, linkCount, linkOf, mostNodes, mostWeight, Tidy}
@@ -72,20 +72,22 @@ paths-near = omega arith
 least-one : {g : Graph} {wt : Link → ℕ} {root c d e : ℕ} → Least g wt root c d → Least g wt root c e → d ≡ e
 least-one {d = d} {e = e} u v = omega (arith, u .least e (v .path), v .least d (u .path))
 
-module _ (g : Graph) (y : Acyclic g) (light : Light g) (nodes root : ℕ) (h : root < nodes) (few : nodes ≤ mostNodes) where
+-- along a line o of what the root reaches
+module _ (g : Graph) (y : Acyclic g) (light : Light g) (nodes root : ℕ) (h : root < nodes) (few : nodes ≤ mostNodes)
+    (o : List ℕ) (bag : (c : ℕ) → count c o ≡ count c (reached g root)) (first : ParentsFirst g o) where
   abbrev sums : List ℕ
-  sums = distancesBy farAway (weight g) g (reached g root) nodes root
+  sums = distancesBy farAway (weight g) g o nodes root
 
   sums-long : length sums ≡ nodes
   unfolding distancesBy
-  sums-long = all-length farAway (weight g) g (reached g root) _ ∙ length-set (replicate nodes farAway) root 0 ∙ length-replicate nodes farAway
+  sums-long = all-length farAway (weight g) g o _ ∙ length-set (replicate nodes farAway) root 0 ∙ length-replicate nodes farAway
 
   inside : (c : ℕ) → 0 < count c (reached g root) → c < nodes
   inside c k = omega (arith, reached-low g root c k)
 
   sums-least : (c : ℕ) → 0 < count c (reached g root) → Least g (weight g) root c (getD sums c farAway)
   sums-least c k =
-      distance-least farAway (weight g) g (reached g root) root (reached-rooted g root y) (reached g root) (λ c. refl) (reached-first g y root) nodes inside (λ i. i) y
+      distance-least farAway (weight g) g (reached g root) root (reached-rooted g root y) o bag first nodes inside (λ i. i) y
       (λ c d v. omega (arith, path-short g y light root v, paths-near)) c k
 
   pub sums-distance : (c : ℕ) → 0 < count c (reached g root) → getD sums c 0 ≡ distance g root c

@@ -1,6 +1,6 @@
 -- The steps of a survey joined, and what they found said by the model's definitions.
 use mathlib.Core.Path.{_≡_, sym, ap, _∙_}
-use Prim.Native.Nat.{ℕ, _+_, _<_}
+use Prim.Native.Nat.{ℕ, _+_, _≤_, _<_}
 use mathlib.Core.List.{List}
 use native.Mathlib.Omega.{arith}
 use lib.ListN.{getD, set, take}
@@ -9,18 +9,16 @@ use Rattle.lists.specs.Lists.{total}
 use Rattle.regions.specs.Region.{Kept}
 use Rattle.regions.proofs.Laws.{region-length, region-in, region-over}
 use Rattle.regions.proofs.Frame.{kept-then, kept-set, kept-less, kept-below, kept-above}
-use Rattle.model.specs.Bag.{one, count}
+use Rattle.model.specs.Bag.{one}
 use Rattle.model.specs.Graph.{Graph, waits, reached, Acyclic}
-use Rattle.model.specs.Distance.{distance}
 use Rattle.model.specs.Table.{tableLength}
 use Rattle.model.proofs.Bags.{Same, same, other, sameOr}
 use Rattle.model.proofs.Reach.{reached-rooted}
 use Rattle.work.specs.Views.{lineIn, incomingIn, distancesIn}
 use Rattle.work.specs.declared.Areas.{Areas}
-use Rattle.order_graph.specs.Graph.{graphOn, AtNode}
+use Rattle.order_graph.specs.Graph.{graphOn, Stands, AtNode}
 use Rattle.order_graph.proofs.Links.{front-kept, stands-kept}
-use Rattle.order_survey.specs.Survey.{Lined, unlined, LineFound, Along, DistancesSet, Surveyed, Measured}
-use Rattle.order_survey.proofs.Nodes.{along-kept}
+use Rattle.order_survey.specs.Survey.{Lined, unlined, LineFound, Along, DistancesSet, Surveyed, Measured, Lines, Distanced, DistancesFound}
 use Rattle.order_survey.proofs.Lines.{line-reached, incoming-waits}
 use Rattle.order_survey.proofs.Distances.{tidy-light, sums-distance}
 
@@ -38,25 +36,15 @@ module _ {a : Areas} {n root r : ℕ} {w w₁ : List ℕ} (s : AtNode a n root w
   pub cleared-along : Along a n r cleared
   cleared-along = record { graph = stands-kept (s .graph) kept-cleared (omega arith); few = f .few; ids = rw line-cleared (f .ids) }
 
-  module _ (y : Acyclic (graphOn a n w)) {w₂ : List ℕ} (d : DistancesSet a n root r cleared w₂) where
+  module _ (y : Acyclic (graphOn a n w)) where
     abbrev graph : Graph
     graph = graphOn a n w
 
     room : root < a .nodes
     room = omega arith
 
-    pub survey-kept : Kept (a .line) (a .end) w w₂
-    survey-kept =
-        kept-then (kept-less kept-cleared (a .line) (a .end) (omega arith) (omega arith)) (kept-less (d .kept) (a .line) (a .end) (omega arith) (omega arith))
-
-    front-cleared : take (a .keys) cleared ≡ take (a .keys) w
-    front-cleared = front-kept (s .graph) kept-cleared (omega arith)
-
-    front : take (a .keys) w₂ ≡ take (a .keys) w
-    front = front-kept (s .graph) survey-kept (omega arith)
-
-    pub survey-along : Along a n r w₂
-    survey-along = along-kept cleared-along (d .kept)
+    front : take (a .keys) cleared ≡ take (a .keys) w
+    front = front-kept (s .graph) kept-cleared (omega arith)
 
     line : lineIn a r cleared ≡ reached graph root
     line = line-cleared ∙ ap (λ (t : Lined). t .line) (f .found) ∙ line-reached graph y (a .nodes) root room
@@ -64,9 +52,8 @@ module _ {a : Areas} {n root r : ℕ} {w w₁ : List ℕ} (s : AtNode a n root w
     counted : (c : ℕ) → getD (incomingIn a w₁) c 0 ≡ one c root + waits graph (reached graph root) c
     counted c = ap (λ (t : Lined). getD (t .incoming) c 0) (f .found) ∙ incoming-waits graph y (a .nodes) root room c
 
-    incoming : (c : ℕ) → getD (incomingIn a w₂) c 0 ≡ waits graph (reached graph root) c
-    incoming c =
-        rw (kept-below (d .kept) (a .incoming) (a .nodes) (omega arith), region-in (a .incoming) (a .nodes) w₁ root 0 room) (go (sameOr c root))
+    incoming : (c : ℕ) → getD (incomingIn a cleared) c 0 ≡ waits graph (reached graph root) c
+    incoming c = rw (region-in (a .incoming) (a .nodes) w₁ root 0 room) (go (sameOr c root))
       where
         go : Same c root → getD (set (incomingIn a w₁) root 0) c 0 ≡ waits graph (reached graph root) c
         go (same e _ _) =
@@ -76,41 +63,68 @@ module _ {a : Areas} {n root r : ℕ} {w w₁ : List ℕ} (s : AtNode a n root w
             )
         go (other k _ o) = getD-set-other (incomingIn a w₁) root c 0 0 k ∙ counted c ∙ rw o (omega arith)
 
-    distances : (c : ℕ) → 0 < count c (reached graph root) → getD (distancesIn a w₂) c 0 ≡ distance graph root c
-    distances c k =
-        rw (d .distances, front-cleared, line) (sums-distance graph y (tidy-light (s .graph .tidy)) (a .nodes) root room (s .graph .tidy .limit) c k)
-
-    pub survey-all : {long : ℕ} → long ≡ total (graphOn a n w₂ .size) (lineIn a r w₂) → Measured a n root long w w₂
+    pub survey-all : {long : ℕ} → long ≡ total (graphOn a n cleared .size) (lineIn a r cleared) → Measured a n root long w cleared
     unfolding tableLength
     survey-all e =
         record {
-          kept = survey-kept;
+          kept = kept-cleared;
           surveyed = record {
-            graph = stands-kept (s .graph) survey-kept (omega arith);
+            graph = cleared-along .graph;
             inside = s .inside;
             rank = λ i. i;
             ranked = rw front y;
             rooted = rw front (reached-rooted graph root y);
             incoming = λ c. rw front (incoming c);
-            distances = λ c k. rw front (distances c (rw front at k));
-            near = d .near;
           };
-          size = e ∙ rw (front, kept-below (d .kept) (a .line) r (omega arith), line);
+          size = e ∙ rw (front, line);
         }
 
--- it holds while orders are tried: they change neither the graph nor anything from the incoming fields on
-pub surveyed-kept : {a : Areas} {n root : ℕ} {w w′ : List ℕ} → Surveyed a n root w → Kept (a .keys) (a .incoming) w w′ → Surveyed a n root w′
-surveyed-kept {a} s k =
-    let front = front-kept (s .graph) k (omega arith) in
-    let same-incoming = kept-above k (a .incoming) (a .nodes) (omega arith) in
-    let same-distances = kept-above k (a .distances) (a .nodes) (omega arith) in
+-- ---- it holds as long as the graph and the incoming fields stand
+
+surveyed-same : {a : Areas} {n root from to : ℕ} {w w′ : List ℕ} → Surveyed a n root w → Kept from to w w′ → a .keys ≤ from → incomingIn a w′ ≡ incomingIn a w → Surveyed a n root w′
+surveyed-same s k h same-incoming =
+    let front = front-kept (s .graph) k h in
     record {
-      graph = stands-kept (s .graph) k (omega arith);
+      graph = stands-kept (s .graph) k h;
       inside = s .inside;
       rank = s .rank;
       ranked = rw front (s .ranked);
       rooted = rw front (s .rooted);
       incoming = λ c. rw (front, same-incoming) (s .incoming c);
-      distances = λ c h. rw (front, same-distances) (s .distances c (rw front at h));
-      near = rw same-distances (s .near);
     }
+
+-- ---- the distances along a line
+
+module _ {a : Areas} {n root r : ℕ} {w : List ℕ} (s : Lines a n root r w) where
+  pub lines-along : Along a n r w
+  lines-along = record { graph = s .surveyed .graph; few = s .few; ids = s .ids }
+
+  pub lines-found : {w′ : List ℕ} → DistancesSet a n root r w w′ → DistancesFound a n root w w′
+  lines-found d =
+      let g = s .surveyed .graph in
+      let front = front-kept g (d .kept) (omega arith) in
+      record {
+        kept = d .kept;
+        distanced =
+            record {
+              distances = λ c k. rw (front, d .distances)
+                  (sums-distance (graphOn a n w) (s .acyclic) (tidy-light (g .tidy)) (a .nodes) root (omega (arith, s .surveyed .inside)) (g .tidy .limit) (lineIn a r w) (s .same) (s .first) c
+                  (rw front at k));
+              near = d .near;
+            };
+      }
+
+-- it holds while orders are tried, which change neither the graph nor anything from the incoming fields on
+pub surveyed-kept : {a : Areas} {n root : ℕ} {w w′ : List ℕ} → Surveyed a n root w → Kept (a .keys) (a .incoming) w w′ → Surveyed a n root w′
+surveyed-kept {a} s k = surveyed-same s k (omega arith) (kept-above k (a .incoming) (a .nodes) (omega arith))
+
+-- and so do the distances
+pub distanced-kept : {a : Areas} {n root : ℕ} {w w′ : List ℕ} → Stands a n w → Distanced a n root w → Kept (a .keys) (a .incoming) w w′ → Distanced a n root w′
+distanced-kept {a} g s k =
+    let front = front-kept g k (omega arith) in
+    let same = kept-above k (a .distances) (a .nodes) (omega arith) in
+    record { distances = λ c h. rw (front, same) (s .distances c (rw front at h)); near = rw same (s .near) }
+
+-- it holds while distances are found, which lie behind it
+pub surveyed-found : {a : Areas} {n root : ℕ} {w w′ : List ℕ} → Surveyed a n root w → DistancesFound a n root w w′ → Surveyed a n root w′
+surveyed-found {a} s d = surveyed-same s (d .kept) (omega (arith, s .graph .apart)) (kept-below (d .kept) (a .incoming) (a .nodes) (omega (arith, s .graph .apart)))

@@ -8,7 +8,7 @@ use lib.ListN.{length, getD, take, length-append}
 use lib.Dec.{eqb, ltb, leb}
 use borrow.Author.Tests.{ltb-true, leb-true, eqb-true, eqb-false}
 use Rattle.lists.proofs.Same.{and-left, and-right}
-use Rattle.regions.proofs.Frame.{kept-less}
+use Rattle.regions.proofs.Frame.{kept-then, kept-less}
 use Rattle.model.specs.Object.{widthOk}
 use Rattle.model.specs.Words.{linkWords}
 use Rattle.model.specs.Graph.{Ranked, Acyclic}
@@ -17,15 +17,16 @@ use Rattle.work.specs.Areas.{areasOf, workNeed, graphWords, areas-apart}
 use Rattle.work.specs.declared.Areas.{Areas}
 use Rattle.order_graph.specs.Graph.{graphIn, linkOf, linksAt, linkCount, mostNodes, mostNodeLinks, mostSize, Tidy}
 use Rattle.order_graph.proofs.Links.{front-kept, stands-kept}
-use Rattle.order_survey.specs.Survey.{Surveyed}
+use Rattle.order_survey.specs.Survey.{Surveyed, Measured, Lines, Distanced, DistancesFound}
 use Rattle.order_survey.proofs.Distances.{node-links}
-use Rattle.order_survey.proofs.Surveys.{surveyed-kept}
+use Rattle.order_survey.proofs.Surveys.{surveyed-kept, surveyed-found, distanced-kept}
 use Rattle.order_fit.specs.Fit.{Placing}
 use Rattle.order_fit.specs.declared.Look.{Look}
-use Rattle.order.specs.Try.{Trying, Tried, SpacesFound}
+use Rattle.order.specs.Try.{Trying, Tried, DistanceOrder, SpacesFound}
+use Rattle.order.proofs.Orders.{order-lines}
 use Rattle.order.specs.declared.By.{By}
 use Rattle.order.specs.declared.By.the-variants as By
-use Rattle.orders.specs.Given.{space, allBelow, tidyLink, tidyNode, given, Loaded, Stood, Shown}
+use Rattle.orders.specs.Given.{space, allBelow, tidyLink, tidyNode, given, Loaded, Stood, Shown, Begun}
 
 -- what is tested of all numbers below n holds of each
 below-at : (n : ℕ) (test : ℕ → Bool) → allBelow n test ≡ true → (i : ℕ) → i < n → test i ≡ true
@@ -125,19 +126,37 @@ module _ {a : Areas} {by : By} {r : ℕ} {x : Look} {w w′ : List ℕ} (s : Try
   pub tried-placing : Placing a (a .nodes) r w′
   tried-placing = record { graph = stands-kept (s .surveyed .graph) (t .kept) (omega arith); nodes = t .nodes }
 
-  pub tried-shown : Shown a by r w′
+  pub tried-shown : Shown a by r w w′
   tried-shown =
       record {
-        surveyed = surveyed-kept (s .surveyed) (t .kept);
+        kept = t .kept;
         nodes = t .nodes;
         order = t .order ∙ rw (front-kept (s .surveyed .graph) (t .kept) (omega arith));
       }
 
--- the spaces found leave the survey
-pub found-trying : {a : Areas} {w w′ : List ℕ} → Surveyed a (a .nodes) (a .nodes - 1) w → SpacesFound a (a .nodes) (a .nodes - 1) w w′
-    → Trying a (a .nodes) (a .nodes - 1) By.Space w′
-found-trying {a} s f =
-    record {
-      surveyed = surveyed-kept s (kept-less (f .kept) (a .keys) (a .incoming) (omega arith) (omega (arith, s .graph .apart)));
-      asked = f .numbered;
-    }
+-- the survey leaves the graph
+pub surveyed-begun : {a : Areas} {l : ℕ} {w w′ : List ℕ} → Stood a w → Measured a (a .nodes) (a .nodes - 1) l w w′ → Begun a w′
+surveyed-begun s m = record { surveyed = m .surveyed; falls = rw (front-kept (s .graph) (m .kept) (omega (arith, s .graph .apart))) (s .falls) }
+
+-- ---- the kahn order is a line to find the distances along
+
+module _ {a : Areas} {r : ℕ} {w w′ : List ℕ} (s : Begun a w) (o : Shown a By.Readiness r w w′) where
+  shown-surveyed : Surveyed a (a .nodes) (a .nodes - 1) w′
+  shown-surveyed = surveyed-kept (s .surveyed) (o .kept)
+
+  pub kahn-lines : Lines a (a .nodes) (a .nodes - 1) r w′
+  kahn-lines = order-lines By.Readiness shown-surveyed (rw (front-kept (s .surveyed .graph) (o .kept) (omega arith)) (s .falls)) (o .nodes) (o .order)
+
+  pub found-distances : {w″ : List ℕ} → DistancesFound a (a .nodes) (a .nodes - 1) w′ w″ → Surveyed a (a .nodes) (a .nodes - 1) w″ × Distanced a (a .nodes) (a .nodes - 1) w″
+  found-distances d = (surveyed-found shown-surveyed d, d .distanced)
+
+-- ---- the distance order is one to find the spaces over
+
+module _ {a : Areas} {r : ℕ} {w w′ : List ℕ} (s : Surveyed a (a .nodes) (a .nodes - 1) w) (d : Distanced a (a .nodes) (a .nodes - 1) w) (o : Shown a By.Distance r w w′) where
+  pub shown-distance : DistanceOrder a (a .nodes) (a .nodes - 1) r w′
+  shown-distance = record { surveyed = surveyed-kept s (o .kept); nodes = o .nodes; order = o .order }
+
+  pub found-trying : {w″ : List ℕ} → SpacesFound a (a .nodes) (a .nodes - 1) w′ w″ → Trying a (a .nodes) (a .nodes - 1) By.Space w″
+  found-trying f =
+      let kept = kept-then (o .kept) (kept-less (f .kept) (a .keys) (a .incoming) (omega arith) (omega (arith, s .graph .apart))) in
+      record { surveyed = surveyed-kept s kept; asked = (distanced-kept (s .graph) d kept, f .numbered) }

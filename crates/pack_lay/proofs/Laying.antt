@@ -18,13 +18,14 @@ use Rattle.layout.specs.Decode.{decode}
 use Rattle.layout.specs.declared.state.State.{State}
 use Rattle.work.specs.Views.{orderIn, placesIn}
 use Rattle.work.specs.declared.Areas.{Areas}
-use Rattle.order_survey.proofs.Surveys.{surveyed-kept}
+use Rattle.order_survey.specs.Survey.{Lines, Distanced, DistancesFound}
+use Rattle.order_survey.proofs.Surveys.{surveyed-kept, surveyed-found, distanced-kept}
 use Rattle.order_fit.specs.declared.Look.{Look}
 use Rattle.order_fit.specs.declared.Look.the-variants.{Fits, Over}
 use Rattle.order.specs.Try.{orderWith, lookOf, DistanceOrder, SpacesFound, Tried}
 use Rattle.order.specs.declared.By.{By}
 use Rattle.order.specs.declared.By.the-variants as By
-use Rattle.order.proofs.Orders.{with-counts, with-once, with-closed}
+use Rattle.order.proofs.Orders.{with-counts, with-once, with-closed, order-lines}
 use Rattle.pack_copy.proofs.Standing.{standing-kept}
 use Rattle.pack_write.specs.Write.{Writing, tableFor}
 use Rattle.pack_lay.specs.Lay.{Laying, Laid, LaidOrder, lookIn, oneOrder, laterOrder}
@@ -105,16 +106,17 @@ module _ {b w : List ℕ} {s : State} {a : Areas} {root room : ℕ} {m : List �
     lay-told = look-is ∙ last-told (orderWith by g root) _
 
     told-over : {u : Overflow} (out : List ℕ) → x ≡ Over u → Laid b w a (oneOrder b w root by) x out out m m′
-    told-over out e = record { kept = t .kept; told = lay-told; written = unwritten b w out (oneOrder b w root by) (sym lay-told ∙ e) }
+    told-over out e = record { kept = kept-less (t .kept) (a .keys) (a .end) (omega arith) (omega (arith, c .stands .graph .apart)); told = lay-told; written = unwritten b w out (oneOrder b w root by) (sym lay-told ∙ e) }
 
     pub lay-over : {u : Overflow} (out : List ℕ) → x ≡ Over u → LaidOrder b w s a root by r x out out m m′
-    lay-over out e = record { laid = told-over out e; nodes = t .nodes; order = order-is }
+    lay-over out e = record { laid = told-over out e; kept = t .kept; nodes = t .nodes; order = order-is }
 
     pub lay-fits : {out out′ : List ℕ} → x ≡ Fits → out′ ≡ over 0 (tableFor b w (orderIn a r m′)) out → LaidOrder b w s a root by r x out out′ m m′
     unfolding firstFit
     lay-fits {out} e q =
         record {
-          laid = record { kept = t .kept; told = lay-told; written = q ∙ rw (order-is, last-placed (orderWith by g root) _ (sym look-is ∙ e)) };
+          laid = record { kept = kept-less (t .kept) (a .keys) (a .end) (omega arith) (omega (arith, c .stands .graph .apart)); told = lay-told; written = q ∙ rw (order-is, last-placed (orderWith by g root) _ (sym look-is ∙ e)) };
+          kept = t .kept;
           nodes = t .nodes;
           order = order-is;
         }
@@ -129,10 +131,13 @@ module _ {b w : List ℕ} {s : State} {a : Areas} {root room : ℕ} {m : List �
     pub laid-laying : {n : ℕ} → room ≡ n → Laying b w s a root n m′
     laid-laying k = record {
       read = c .read;
-      stands = standing-kept (c .stands) (l .laid .kept) (omega arith);
-      surveyed = surveyed-kept (c .surveyed) (l .laid .kept);
+      stands = standing-kept (c .stands) (l .kept) (omega arith);
+      surveyed = surveyed-kept (c .surveyed) (l .kept);
       fits = omega (arith, c .fits);
     }
+
+    pub laid-distanced : Distanced a (s .closed) root m → Distanced a (s .closed) root m′
+    laid-distanced d = distanced-kept (c .stands .graph) d (l .kept)
 
     -- one that does not gives way
     laid-next : {u : Overflow} (p : List ℕ) (ps : List (List ℕ)) {x′ : Look} {out″ m″ : List ℕ} → x ≡ Over u → Laid b w a (firstFit g p ps) x′ out′ out″ m′ m″
@@ -164,7 +169,31 @@ module _ {b w : List ℕ} {s : State} {a : Areas} {root room : ℕ} {m : List �
     }
 
     found-laid : {u : Outcome} {x : Look} {out out′ m′ : List ℕ} → Laid b w a u x out out′ m₁ m′ → Laid b w a u x out out′ m m′
-    found-laid l = record { kept = kept-then found-kept (l .kept); told = l .told; written = l .written }
+    found-laid l =
+        record { kept = kept-then (kept-less found-kept (a .keys) (a .end) (omega arith) (omega (arith, c .stands .graph .apart))) (l .kept); told = l .told; written = l .written }
+
+    pub found-distanced : Distanced a (s .closed) root m → Distanced a (s .closed) root m₁
+    found-distanced d = distanced-kept (c .stands .graph) d found-kept
+
+-- ---- the distances found along the kahn order
+
+module _ {b w : List ℕ} {s : State} {a : Areas} {root room : ℕ} {m : List ℕ} (c : Laying b w s a root room m) where
+  pub kahn-lines : {r : ℕ} {x : Look} {out out′ m′ : List ℕ} → LaidOrder b w s a root By.Readiness r x out out′ m m′ → Lines a (s .closed) root r m′
+  kahn-lines l =
+      let d = laid-laying c l refl in
+      order-lines By.Readiness (d .surveyed) (d .stands .falls) (l .nodes) (l .order ∙ rw (d .stands .same))
+
+  module _ {m₁ : List ℕ} (f : DistancesFound a (s .closed) root m m₁) where
+    pub near-laying : {n : ℕ} → room ≡ n → Laying b w s a root n m₁
+    near-laying k = record {
+      read = c .read;
+      stands = standing-kept (c .stands) (f .kept) (omega (arith, c .stands .graph .apart));
+      surveyed = surveyed-found (c .surveyed) f;
+      fits = omega (arith, c .fits);
+    }
+
+    near-laid : {u : Outcome} {x : Look} {out out′ m′ : List ℕ} → Laid b w a u x out out′ m₁ m′ → Laid b w a u x out out′ m m′
+    near-laid l = record { kept = kept-then (kept-less (f .kept) (a .keys) (a .end) (omega (arith, c .stands .graph .apart)) (omega arith)) (l .kept); told = l .told; written = l .written }
 
 -- ---- the whole
 
@@ -182,7 +211,7 @@ module _ {b w : List ℕ} {s : State} {a : Areas} {root room : ℕ} {m : List �
     unfolding arranged
     arranged-first e = laid-first c l _ e
 
-    pub arranged-later : {u : Overflow} {x′ : Look} {out″ m″ : List ℕ} → x ≡ Over u → Laid b w a (laterOrder b w root) x′ out′ out″ m′ m″
-        → Laid b w a (arranged (graphOf (decode b w .closed)) root) x′ out out″ m m″
+    pub arranged-later : {u : Overflow} {x′ : Look} {out″ m₁ m″ : List ℕ} → x ≡ Over u → DistancesFound a (s .closed) root m′ m₁
+        → Laid b w a (laterOrder b w root) x′ out′ out″ m₁ m″ → Laid b w a (arranged (graphOf (decode b w .closed)) root) x′ out out″ m m″
     unfolding arranged
-    arranged-later e q = laid-next c l _ _ e q
+    arranged-later e f q = laid-next c l _ _ e (near-laid (laid-laying c l refl) f q)

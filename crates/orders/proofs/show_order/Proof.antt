@@ -1,5 +1,5 @@
-use Rattle.orders.proofs.Given.{tried-placing, tried-shown}
 -- `show_order` meets its contract: an order leaves the graph and its survey as they are.
+use Rattle.orders.proofs.Given.{tried-placing, tried-shown}
 use borrow.Author.Needs.{needs}
 use Rattle.orders.proofs.show_order.Statement.{statement}
 use Rattle.orders.proofs.show_order.Tie as tie

@@ -1,6 +1,7 @@
-use Rattle.pack_lay.proofs.Laying.{laid-laying, arranged-first, arranged-later}
--- `lay_first_fit` meets its contract: later orders are tried exactly where the plain one does not fit.
+-- `lay_first_fit` meets its contract: distances are found and later orders tried exactly where the plain one does not fit.
+use mathlib.Core.Path.{refl}
 use borrow.Author.Needs.{needs}
+use Rattle.pack_lay.proofs.Laying.{laid-laying, kahn-lines, near-laying, arranged-first, arranged-later}
 use Rattle.pack_lay.proofs.lay_first_fit.Statement.{statement}
 use Rattle.pack_lay.proofs.lay_first_fit.Tie as tie
 
@@ -21,15 +22,23 @@ same-length-2 c = search needs
 
 returns : tie.Need-returns
 returns c =
-    let pre = c .before .before .before .before .before .before .before .before .before .before .before .before .before .pre in
-    let lay-order = c .before .before .before .before .before .before .lay-order .ensures in
-    arranged-first pre lay-order ((c .enum-told2) .given .1)
+    let at-order = c .before .before .before .before .before .before in
+    let pre = at-order .before .before .before .before .before .before .before .pre in
+    arranged-first pre (at-order .lay-order .ensures) ((c .enum-told2) .given .1)
+
+find-distances-requires : tie.Need-find-distances-requires
+find-distances-requires c κs =
+    let at-order = c .before .before .before .before .before .before .before in
+    let pre = at-order .before .before .before .before .before .before .before .pre in
+    kahn-lines pre (at-order .lay-order .ensures)
 
 lay-later-requires : tie.Need-lay-later-requires
 lay-later-requires c κs =
-    let pre = c .before .before .before .before .before .before .before .before .before .before .before .before .before .before .before .pre in
-    let lay-order = c .before .before .before .before .before .before .before .before .lay-order .ensures in
-    laid-laying pre lay-order (search needs)
+    let at-distances = c .before .before .before .before in
+    let at-order = at-distances .before .before .before .before .before .before .before .before in
+    let pre = at-order .before .before .before .before .before .before .before .pre in
+    let distances = at-distances .find-distances .ensures in
+    (near-laying (laid-laying pre (at-order .lay-order .ensures) (search needs)) distances refl, distances .distanced)
 
 same-length-3 : tie.Need-same-length-3
 same-length-3 c = search needs
@@ -39,10 +48,12 @@ same-length-4 c = search needs
 
 returns-2 : tie.Need-returns-2
 returns-2 c =
-    let pre = c .before .before .before .before .before .before .before .before .before .before .before .before .before .before .before .before .before .before .before .before .pre in
-    let lay-order = c .before .before .before .before .before .before .before .before .before .before .before .before .before .lay-order .ensures in
-    let lay-later = c .before .before .before .before .lay-later .ensures in
-    arranged-later pre lay-order ((c .before .before .before .before .before .before .before .enum-told) .given .1) lay-later
+    let at-later = c .before .before .before .before in
+    let at-distances = at-later .before .before .before .before .before in
+    let at-told = at-distances .before .before in
+    let at-order = at-told .before .before .before .before .before .before in
+    let pre = at-order .before .before .before .before .before .before .before .pre in
+    arranged-later pre (at-order .lay-order .ensures) ((at-told .enum-told) .given .1) (at-distances .find-distances .ensures) (at-later .lay-later .ensures)
 
 pub lay-first-fit-spec : {M : Type 1} → statement M
 lay-first-fit-spec =
@@ -54,6 +65,7 @@ lay-first-fit-spec =
     same-length
     same-length-2
     returns
+    find-distances-requires
     lay-later-requires
     same-length-3
     same-length-4

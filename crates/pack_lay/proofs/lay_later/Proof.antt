@@ -1,7 +1,8 @@
-use mathlib.Core.Path.{refl}
-use Rattle.pack_lay.proofs.Laying.{laid-laying, distance-order, found-laying, later-first, later-last}
 -- `lay_later` meets its contract: the spaces are found and the order by them tried exactly where the distance order does not fit.
+use mathlib.Core.Path.{refl}
+use native.Mathlib.Omega.{arith}
 use borrow.Author.Needs.{needs}
+use Rattle.pack_lay.proofs.Laying.{laid-laying, laid-distanced, distance-order, found-laying, found-distanced, later-first, later-last}
 use Rattle.pack_lay.proofs.lay_later.Statement.{statement}
 use Rattle.pack_lay.proofs.lay_later.Tie as tie
 
@@ -22,22 +23,26 @@ same-length-2 c = search needs
 
 returns : tie.Need-returns
 returns c =
-    let pre = c .before .before .before .before .before .before .before .before .before .before .before .before .before .pre in
-    let lay-order = c .before .before .before .before .before .before .lay-order .ensures in
-    later-first pre lay-order ((c .enum-told2) .given .1)
+    let at-order = c .before .before .before .before .before .before in
+    let pre = at-order .before .before .before .before .before .before .before .pre in
+    later-first (pre .0) (at-order .lay-order .ensures) ((c .enum-told2) .given .1)
 
 find-spaces-requires : tie.Need-find-spaces-requires
 find-spaces-requires c κs =
-    let pre = c .before .before .before .before .before .before .before .before .before .before .before .before .before .before .pre in
-    let lay-order = c .before .before .before .before .before .before .before .lay-order .ensures in
-    distance-order pre lay-order
+    let at-order = c .before .before .before .before .before .before .before in
+    let pre = at-order .before .before .before .before .before .before .before .pre in
+    distance-order (pre .0) (at-order .lay-order .ensures)
 
 lay-order-requires-2 : tie.Need-lay-order-requires-2
 lay-order-requires-2 c κs =
-    let pre = c .before .before .before .before .before .before .before .before .before .before .before .before .before .before .before .before .before .before .before .pre in
-    let lay-order = c .before .before .before .before .before .before .before .before .before .before .before .before .lay-order .ensures in
-    let find-spaces = c .before .before .before .before .find-spaces .ensures in
-    (found-laying (laid-laying pre lay-order (search needs)) find-spaces refl, find-spaces .numbered)
+    let at-spaces = c .before .before .before .before in
+    let at-out = at-spaces .before .before .before .before .before .before .before in
+    let at-order = at-out .before in
+    let pre = at-order .before .before .before .before .before .before .before .pre in
+    let order = at-order .lay-order .ensures in
+    let spaces = at-spaces .find-spaces .ensures in
+    let laying = laid-laying (pre .0) order refl in
+    (found-laying laying spaces (omega (arith, at-out .out .given)), (found-distanced laying spaces (laid-distanced (pre .0) order (pre .1)), spaces .numbered))
 
 same-length-3 : tie.Need-same-length-3
 same-length-3 c = search needs
@@ -47,11 +52,12 @@ same-length-4 c = search needs
 
 returns-2 : tie.Need-returns-2
 returns-2 c =
-    let pre = c .before .before .before .before .before .before .before .before .before .before .before .before .before .before .before .before .before .before .before .before .before .before .before .before .pre in
-    let lay-order = c .before .before .before .before .before .before .before .before .before .before .before .before .before .before .before .before .before .lay-order .ensures in
-    let find-spaces = c .before .before .before .before .before .before .before .before .before .find-spaces .ensures in
-    let lay-order2 = c .before .before .before .before .lay-order2 .ensures in
-    later-last pre lay-order ((c .before .before .before .before .before .before .before .before .before .before .before .enum-told) .given .1) find-spaces lay-order2
+    let at-last = c .before .before .before .before in
+    let at-spaces = at-last .before .before .before .before .before in
+    let at-told = at-spaces .before .before in
+    let at-order = at-told .before .before .before .before .before .before in
+    let pre = at-order .before .before .before .before .before .before .before .pre in
+    later-last (pre .0) (at-order .lay-order .ensures) ((at-told .enum-told) .given .1) (at-spaces .find-spaces .ensures) (at-last .lay-order2 .ensures)
 
 pub lay-later-spec : {M : Type 1} → statement M
 lay-later-spec =
