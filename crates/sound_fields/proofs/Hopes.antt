@@ -5,17 +5,18 @@ use mathlib.Core.List.{List, [], _∷_}
 use mathlib.Core.Bool.{Bool, true, false, not, _&&_, _||_}
 use native.Mathlib.Omega.{arith}
 use native.Mathlib.Decide.{decLe}
-use borrow.Author.Tests.{leb-true, le-leb, lt-leb}
+use borrow.Author.Tests.{le-leb, lt-leb}
 use lib.ListN.{length, drop, drop-of-length-le}
 use lib.Dec.{leb}
 use Rattle.lists.proofs.Same.{and-left, and-right}
 use Rattle.big_endian.specs.BigEndian.{capacity}
 use Rattle.big_endian.proofs.Laws.{capacity-rises}
-use Rattle.model.specs.Object.{Slot, Object, narrowest, widest, slotOk, hopeless, anyHopeless, slotsOf, hopelessObject}
+use Rattle.model.specs.Object.{Slot, Object, narrowest, slotOk, hopeless, anyHopeless, slotsOf, hopelessObject}
 use Rattle.model.proofs.Slots.{slot-wide}
 use Rattle.layout.specs.Words.{linkWords, linksOf, linkAt}
 use Rattle.layout.specs.Fields.{objectOk, closedOk, slotsOk}
 use Rattle.layout.proofs.Links.{linksOf-next}
+use Rattle.sound_fields.proofs.Ends.{width-least}
 
 -- the test as the code makes it, by a sum: a width holds one number at the least
 pub sum-hopeless : (n : ℕ) (s : Slot) → leb (capacity (s .width) + s .inner) n ≡ hopeless n s
@@ -33,8 +34,7 @@ pub small-hopes : (n : ℕ) → n < capacity narrowest → (ss : List Slot) → 
 unfolding slotsOk anyHopeless
 small-hopes n h [] k = refl
 small-hopes n h (s ∷ ss) k =
-    let wide = slot-wide s (and-left (slotOk s) (slotsOk ss) k) in
-    let least = leb-true narrowest (s .width) (and-left (leb narrowest (s .width)) (leb (s .width) widest) wide) in
+    let least = width-least (s .width) (slot-wide s (and-left (slotOk s) (slotsOk ss) k)) in
     let here : hopeless n s ≡ false = lt-leb (capacity (s .width)) (n - s .inner) (omega (arith, capacity-rises narrowest (s .width) least)) in
     rw here (small-hopes n h ss (and-right (slotOk s) (slotsOk ss) k))
 

@@ -13,10 +13,10 @@ use model::LINK_WORDS;
 use model::NARROWEST;
 use model::WIDEST;
 ghost use mathlib.Core.Path.{_≡_};
-ghost use Prim.Native.Nat.{_*_, _^_, _<_};
+ghost use Prim.Native.Nat.{_+_, _*_, _≤_};
 ghost use lib.ListN.{length};
-ghost use Rattle.lists.specs.Lists.{holds};
-ghost use Rattle.model.specs.Object.{slotOk};
+ghost use Rattle.lists.specs.Lists.{part, holds, zeros};
+ghost use Rattle.model.specs.Object.{narrowest, widest, slotOk};
 ghost use Rattle.layout.specs.Words.{linkWords, linksOf, openDepth, closedCount, linksAt};
 ghost use Rattle.layout.specs.Fields.{fieldTests, fieldsOk, objectOk, closedOk};
 ghost use mathlib.Core.Bool.{true};
@@ -32,6 +32,15 @@ pub fn slot_ok(l: Link) -> bool
     ensures { λ r. ⌜ r ≡ slotOk (linkIn l .slot) ⌝ }
 {
     (NARROWEST <= l.width) & (l.width <= WIDEST) & (l.inner <= l.at)
+}
+
+// Whether a field's bytes, from `at` up to `end`, are zero: its first two and its last two are all of them, so that no branch depends on the width.
+fn field_zero(bytes: &[u8], at: usize, end: usize) -> bool
+    requires { ⌜ (at + narrowest ≤ end) × (end ≤ at + widest) × (end ≤ length (now bytes)) ⌝ }
+    ensures { λ r. ⌜ r ≡ zeros (part at end (now (bytes .entry))) ⌝ }
+{
+    let last = end - NARROWEST;
+    (bytes[at] == 0) & (bytes[at + 1] == 0) & (bytes[last] == 0) & (bytes[last + 1] == 0)
 }
 
 // One link's field.
@@ -55,7 +64,7 @@ fn field_ok(bytes: &[u8], l: Link, from: usize, kids: usize) -> bool
     if kids <= child {
         return false;
     }
-    memory::bytes::all_zero(&bytes[at..end])
+    field_zero(bytes, at, end)
 }
 
 // Every field of an object of these bytes and these links' words, whose children are below `kids`.

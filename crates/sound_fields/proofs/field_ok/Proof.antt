@@ -1,10 +1,14 @@
 -- Each refusal is a test that fails; past them all, the field's bytes decide.
 use borrow.Author.Tests.{lt-leb, le-ltb, not-true, not-false}
-use mathlib.Core.Path.{sym, _∙_}
-use Rattle.lists.proofs.Holds.{holds-not}
-use Rattle.layout.specs.Fields.{fieldTests}
-use Rattle.layout.proofs.FieldTests.{field-bytes}
 use borrow.Author.Needs.{needs}
+use mathlib.Core.Path.{sym, _∙_}
+use native.Mathlib.Omega.{arith}
+use Rattle.lists.proofs.Holds.{holds-not}
+use Rattle.model.proofs.Slots.{slot-wide, width-most}
+use Rattle.layout.specs.Fields.{fieldTests}
+use Rattle.layout.specs.Links.{linkIn}
+use Rattle.layout.proofs.FieldTests.{field-bytes}
+use Rattle.sound_fields.proofs.Ends.{width-least}
 use Rattle.sound_fields.proofs.field_ok.Statement.{statement}
 use Rattle.sound_fields.proofs.field_ok.Tie as tie
 
@@ -30,23 +34,18 @@ returns-4 : tie.Need-returns-4
 unfolding fieldTests
 returns-4 c = sym (holds-not _ 3 (le-ltb _ _ (c .if4 .taken)))
 
-sub-all-zero : tie.Need-sub-all-zero
-sub-all-zero c = search needs
-
-part-all-zero-start : tie.Need-part-all-zero-start
-part-all-zero-start c = search needs
-
-part-all-zero-end : tie.Need-part-all-zero-end
-part-all-zero-end c = search needs
-
-all-zero-requires : tie.Need-all-zero-requires
-all-zero-requires c κs = search needs
+field-zero-requires : tie.Need-field-zero-requires
+field-zero-requires c κs =
+    let right = sym (c .before .before .before .slot-ok .ensures) ∙ not-false _ (c .before .before .if2 .left) in
+    let l = c .before .before .before .before .before .before .args .l in
+    let wide = slot-wide (linkIn l .slot) right in
+    (omega (arith, width-least (l .width) wide), omega (arith, width-most (l .width) wide), c .before .if3 .left)
 
 returns-5 : tie.Need-returns-5
 returns-5 c =
-    let right = sym (c .before .before .before .before .before .slot-ok .ensures) ∙ not-false _ (c .before .before .before .before .if2 .left) in
-    c .all-zero .ensures
-    ∙ field-bytes _ _ _ _ (c .before .before .before .before .before .before .if1 .left) right (c .before .before .before .if3 .left) (c .before .before .if4 .left)
+    let right = sym (c .before .before .before .before .slot-ok .ensures) ∙ not-false _ (c .before .before .before .if2 .left) in
+    c .field-zero .ensures
+    ∙ field-bytes _ _ _ _ (c .before .before .before .before .before .if1 .left) right (c .before .before .if3 .left) (c .before .if4 .left)
 
 pub field-ok-spec : {M : Type 1} → statement M
 field-ok-spec =
@@ -58,8 +57,5 @@ field-ok-spec =
     returns-2
     returns-3
     returns-4
-    sub-all-zero
-    part-all-zero-start
-    part-all-zero-end
-    all-zero-requires
+    field-zero-requires
     returns-5)
