@@ -1,11 +1,12 @@
 -- A field written and read back, over the width.
 use mathlib.Core.Path.{_≡_, refl, ap, _∙_}
-use Prim.Native.Nat.{ℕ, zero, suc, _+_, _*_, _/_, _%_, _≤_, _<_}
+use Prim.Native.Nat.{ℕ, zero, suc, _+_, _*_, _/_, _%_, _^_, _≤_, _<_}
 use mathlib.Core.List.{List, [], _∷_, _++_}
 use mathlib.Core.Bool.{true}
 use native.Mathlib.Omega.{arith}
-use native.Mathlib.Nat.{pow-suc, pow-le-pow-right, div-lt-iff-lt-mul}
+use native.Mathlib.Nat.{one-mul, mul-suc, mod-eq-of-lt, pow-suc, pow-le-pow-right, div-lt-iff-lt-mul}
 use native.Mathlib.Numerals.{add-one}
+use lib.Pow.{pow-add}
 use lib.ListN.{length, getD, length-append}
 use borrow.Author.Tests.{ltb-true}
 use Rattle.lists.specs.Lists.{part, over}
@@ -18,6 +19,15 @@ capacity-next w = rw (add-one, pow-suc)
 
 pub capacity-rises : (v w : ℕ) → v ≤ w → capacity v ≤ capacity w
 capacity-rises v w h = pow-le-pow-right (omega arith) h
+
+-- eight bits are a byte
+capacity-bits : (w : ℕ) → 2 ^ (8 * w) ≡ capacity w
+capacity-bits zero = refl
+capacity-bits (suc w) = rw (mul-suc, pow-add 2 (8 * w) 8, pow-suc 256 w, capacity-bits w)
+
+-- 1 shifted left by a width of bytes: nothing leaves the word
+pub capacity-shift : (w : ℕ) → w ≤ 7 → (1 * 2 ^ (8 * w)) % 2 ^ 64 ≡ capacity w
+capacity-shift w h = rw (one-mul, capacity-bits w) (mod-eq-of-lt (omega (arith, capacity-rises w 7 h)))
 
 pub length-big : (w n : ℕ) → length (bigEndian w n) ≡ w
 unfolding bigEndian

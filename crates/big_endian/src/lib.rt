@@ -5,6 +5,8 @@ ghost use lib.ListN.{length};
 ghost use Rattle.lists.specs.Lists.{part, over};
 ghost use Rattle.big_endian.specs.BigEndian.{capacity, bigEndian, readBig};
 
+const BYTE_BITS: usize = 8;
+
 // Writes n into the field of `width` bytes at `at`. Of a number that the width cannot hold, the low bytes are written.
 pub fn write(out: &mut [u8], at: usize, width: usize, n: u64)
     requires { ⌜ at + width ≤ length (now out) ⌝ }
@@ -38,13 +40,7 @@ pub fn capacity(width: usize) -> u64
     requires { ⌜ width ≤ 7 ⌝ }
     ensures { λ r. ⌜ r ≡ capacity width ⌝ }
 {
-    let mut n: u64 = 1;
-    let mut i = 0;
-    while i < width {
-        n = n * 256;
-        i += 1;
-    }
-    n
+    1u64 << (BYTE_BITS * width)
 }
 
 fn wide(x: u8) -> u64
