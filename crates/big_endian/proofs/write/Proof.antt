@@ -1,64 +1,43 @@
--- `write` meets its contract: what is left of the number, written over the list as it is now, is the list that is promised.
-use mathlib.Core.Path.{_≡_, refl, sym, _∙_}
-use Prim.Native.Nat.{_+_, _≤_}
-use lib.ListN.{length, length-set}
+-- `write` meets its contract: a field of no bytes changes nothing, any other is written short or long.
+use mathlib.Core.Path.{sym}
 use native.Mathlib.Omega.{arith}
-use Rattle.lists.specs.Lists.{over}
-use Rattle.big_endian.specs.BigEndian.{bigEndian}
-use Rattle.big_endian.proofs.Turns.{write-turn, write-end}
+use denote.Ref.{now}
+use borrow.Author.Needs.{needs}
+use Rattle.big_endian.proofs.Turns.{write-end}
 use Rattle.big_endian.proofs.write.Statement.{statement}
 use Rattle.big_endian.proofs.write.Tie as tie
 
-abbrev Inv-loop : tie.InvT-loop
-Inv-loop out₀ at width n rest₀ left₀ out rest left =
-    (at + left ≤ length out) × (length out ≡ length out₀) × (over at (bigEndian width n) out₀ ≡ over at (bigEndian left rest) out)
+write-long-requires : tie.Need-write-long-requires
+write-long-requires c κs = search needs
 
-abbrev μ-loop : tie.MeasureT-loop
-μ-loop out₀ at width n rest₀ left₀ out rest left = left
+same-length : tie.Need-same-length
+same-length c = search needs
 
-loop-holds : tie.Need-loop-holds Inv-loop μ-loop
-loop-holds c = (omega arith, refl, refl)
+returns : tie.Need-returns
+returns c = search needs
 
-sub-left : tie.Need-sub-left Inv-loop μ-loop
-sub-left c = omega arith
+returns-2 : tie.Need-returns-2
+returns-2 c =
+    let args = c .before .before .before .args in
+    sym (write-end (args .at) (args .width) (args .n) (now (args .out)) (omega arith))
 
-cast-out : tie.Need-cast-out Inv-loop μ-loop
-cast-out c = omega arith
+write-short-requires : tie.Need-write-short-requires
+write-short-requires c κs = search needs
 
-add-out : tie.Need-add-out Inv-loop μ-loop
-add-out c = omega arith
+same-length-2 : tie.Need-same-length-2
+same-length-2 c = search needs
 
-slice-write-out : tie.Need-slice-write-out Inv-loop μ-loop
-slice-write-out c = omega arith
-
-loop-less : tie.Need-loop-less Inv-loop μ-loop
-loop-less c = omega arith
-
-loop-again : tie.Need-loop-again Inv-loop μ-loop
-loop-again c =
-    let l = c .before .loop in
-    (simp length-set (omega arith), simp length-set (l .inv .1), l .inv .2 ∙ write-turn _ (l .left) (l .rest) (l .out) (c .loop-test .taken) (l .inv .0))
-
-same-length : tie.Need-same-length Inv-loop μ-loop
-same-length c = omega arith
-
-returns : tie.Need-returns Inv-loop μ-loop
-returns c =
-    let l = c .before .loop in
-    sym (l .inv .2 ∙ write-end _ (l .left) (l .rest) (l .out) (c .loop-test .left))
+returns-3 : tie.Need-returns-3
+returns-3 c = search needs
 
 pub write-spec : {M : Type 1} → statement M
 write-spec =
     tie.close
     (tie.spec
-    Inv-loop
-    μ-loop
-    loop-holds
-    sub-left
-    cast-out
-    add-out
-    slice-write-out
-    loop-less
-    loop-again
+    write-long-requires
     same-length
-    returns)
+    returns
+    returns-2
+    write-short-requires
+    same-length-2
+    returns-3)
