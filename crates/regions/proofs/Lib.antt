@@ -2,3 +2,4 @@ pub mod Laws
 pub mod Bounds
 pub mod Frame
 pub mod Turns
+pub mod Lent
