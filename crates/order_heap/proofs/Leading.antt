@@ -10,7 +10,7 @@ use Rattle.lists.specs.Lists.{pick}
 use Rattle.lists.proofs.Elements.{Each, none, more}
 use Rattle.model.specs.Bag.{without, least}
 
-without-first : (x : ℕ) (l : List ℕ) → without x (x ∷ l) ≡ l
+pub without-first : (x : ℕ) (l : List ℕ) → without x (x ∷ l) ≡ l
 unfolding without
 without-first x l = rw (eq-eqb x x refl)
 

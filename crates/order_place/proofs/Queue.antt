@@ -6,7 +6,6 @@ use native.Mathlib.Omega.{arith}
 use native.Mathlib.Numerals.{add-one}
 use lib.ListN.{length, getD, take, drop, drop-of-length-le}
 use lib.Seq.{take-take, take-append-le, drop-cons, drop-append-le}
-use borrow.Author.Tests.{eq-eqb}
 use Rattle.regions.proofs.Laws.{region-length, region-at, region-next}
 use Rattle.regions.proofs.Bounds.{ceiling-at}
 use Rattle.regions.proofs.Frame.{kept-then, kept-less}
@@ -15,6 +14,7 @@ use Rattle.work.specs.Views.{orderIn}
 use Rattle.model.specs.Bag.{without, least}
 use Rattle.order_graph.specs.Graph.{graphOn}
 use Rattle.order_graph.proofs.Links.{front-kept}
+use Rattle.order_heap.proofs.Leading.{without-first}
 use Rattle.order_release.specs.Release.{Arrivals, ReleasedAll}
 use Rattle.order_place.specs.Place.{sameKey, RootReady, OrderFound}
 use Rattle.order_place.proofs.Turns.{Turn, turn-next, turn-arrived, turn-last}
@@ -24,10 +24,6 @@ least-same : (x : ℕ) (l : List ℕ) → least sameKey x l ≡ x
 unfolding least
 least-same x [] = refl
 least-same x (y ∷ l) = least-same x l
-
-without-first : (x : ℕ) (l : List ℕ) → without x (x ∷ l) ≡ l
-unfolding without
-without-first x l = rw (eq-eqb x x refl)
 
 -- those in the order that are not placed yet are the ready ones
 pub record Queued (a : Areas) (n root m q : ℕ) (w₀ w : List ℕ) : Type 0 where

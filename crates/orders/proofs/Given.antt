@@ -26,7 +26,7 @@ use Rattle.order.specs.Try.{Trying, Tried, DistanceOrder, SpacesFound}
 use Rattle.order.proofs.Orders.{order-lines}
 use Rattle.order.specs.declared.By.{By}
 use Rattle.order.specs.declared.By.the-variants as By
-use Rattle.orders.specs.Given.{space, allBelow, tidyLink, tidyNode, given, Loaded, Stood, Shown, Begun}
+use Rattle.orders.specs.Given.{space, allBelow, tidyLink, tidyNode, given, Loaded, Stood, Shown, Prepared}
 
 -- what is tested of all numbers below n holds of each
 below-at : (n : ℕ) (test : ℕ → Bool) → allBelow n test ≡ true → (i : ℕ) → i < n → test i ≡ true
@@ -135,12 +135,12 @@ module _ {a : Areas} {by : By} {r : ℕ} {x : Look} {w w′ : List ℕ} (s : Try
       }
 
 -- the survey leaves the graph
-pub surveyed-begun : {a : Areas} {l : ℕ} {w w′ : List ℕ} → Stood a w → Measured a (a .nodes) (a .nodes - 1) l w w′ → Begun a w′
-surveyed-begun s m = record { surveyed = m .surveyed; falls = rw (front-kept (s .graph) (m .kept) (omega (arith, s .graph .apart))) (s .falls) }
+pub surveyed-prepared : {a : Areas} {l : ℕ} {w w′ : List ℕ} → Stood a w → Measured a (a .nodes) (a .nodes - 1) l w w′ → Prepared a w′
+surveyed-prepared s m = record { surveyed = m .surveyed; falls = rw (front-kept (s .graph) (m .kept) (omega (arith, s .graph .apart))) (s .falls) }
 
 -- ---- the kahn order is a line to find the distances along
 
-module _ {a : Areas} {r : ℕ} {w w′ : List ℕ} (s : Begun a w) (o : Shown a By.Readiness r w w′) where
+module _ {a : Areas} {r : ℕ} {w w′ : List ℕ} (s : Prepared a w) (o : Shown a By.Readiness r w w′) where
   shown-surveyed : Surveyed a (a .nodes) (a .nodes - 1) w′
   shown-surveyed = surveyed-kept (s .surveyed) (o .kept)
 

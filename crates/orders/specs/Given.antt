@@ -59,6 +59,6 @@ pub record Shown (a : Areas) (by : By) (r : ℕ) (w w′ : List ℕ) : Type 0 wh
   pub order : orderIn a r w′ ≡ orderWith by (graphOn a (a .nodes) w′) (a .nodes - 1)
 
 -- the last node's survey is done
-pub record Begun (a : Areas) (w : List ℕ) : Type 0 where
+pub record Prepared (a : Areas) (w : List ℕ) : Type 0 where
   pub surveyed : Surveyed a (a .nodes) (a .nodes - 1) w
   pub falls : Acyclic (graphOn a (a .nodes) w)

@@ -8,7 +8,7 @@ ghost use Rattle.model.specs.Words.{linkWords};
 ghost use Rattle.order_fit.specs.Fit.{Placing};
 ghost use Rattle.order_survey.specs.Survey.{Surveyed, Distanced};
 ghost use Rattle.order.specs.Try.{Trying};
-ghost use Rattle.orders.specs.Given.{given, Loaded, Stood, Shown, Begun};
+ghost use Rattle.orders.specs.Given.{given, Loaded, Stood, Shown, Prepared};
 use answer::Overflow;
 use model::LINK_WORDS;
 use order::By;
@@ -99,7 +99,7 @@ fn show_later(work: &mut [u64], a: Areas)
 
 // The distances are found along the kahn order.
 fn show_each(work: &mut [u64], a: Areas)
-    requires { ⌜ Begun a (now work) ⌝ }
+    requires { ⌜ Prepared a (now work) ⌝ }
 {
     let n = a.nodes;
     let placed = show_order(b"\nkahn=", work, a, By::Readiness);

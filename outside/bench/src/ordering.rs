@@ -13,7 +13,8 @@ use reference::random::Numbers;
 use reference::sound::sound;
 
 const COUNTS: [usize; 2] = [4_000, 16_000];
-const TURNS: usize = 60;
+const ROUNDS: usize = 8;
+const TURNS: usize = 10;
 
 struct Shape {
     name: &'static str,
@@ -160,14 +161,19 @@ impl Case {
     }
 }
 
-/// All packs in turn, so that a busy machine slows all. The same memory is lent in
-/// every turn, as a caller would; the plain packer allocates its own besides.
+/// A pack a few times by the one and then by the other, in rounds over all packs,
+/// so that a busy machine slows all. The same memory is lent in every turn, as a
+/// caller would; the plain packer allocates its own besides.
 fn timed(mut cases: [Case; 3]) -> [Times; 3] {
     let mut times = [[f64::MAX; 2]; 3];
-    for _ in 0..TURNS {
-        for (case, times) in cases.iter_mut().zip(&mut times) {
-            times[0] = times[0].min(microseconds(|| case.pack()));
-            times[1] = times[1].min(microseconds(|| case.pack_plainly()));
+    for _ in 0..ROUNDS {
+        for (case, [proved, plain]) in cases.iter_mut().zip(&mut times) {
+            for _ in 0..TURNS {
+                *proved = proved.min(microseconds(|| case.pack()));
+            }
+            for _ in 0..TURNS {
+                *plain = plain.min(microseconds(|| case.pack_plainly()));
+            }
         }
     }
     for case in cases {

@@ -1,6 +1,6 @@
 -- `show_orders` meets its contract: the survey leaves the graph.
 use borrow.Author.Needs.{needs}
-use Rattle.orders.proofs.Given.{surveyed-begun}
+use Rattle.orders.proofs.Given.{surveyed-prepared}
 use Rattle.orders.proofs.show_orders.Statement.{statement}
 use Rattle.orders.proofs.show_orders.Tie as tie
 
@@ -13,7 +13,7 @@ survey-requires c κs = search needs
 show-each-requires : tie.Need-show-each-requires
 show-each-requires c κs =
     let at-survey = c .before .before .before in
-    surveyed-begun (at-survey .before .before .before .pre) (at-survey .survey .ensures)
+    surveyed-prepared (at-survey .before .before .before .pre) (at-survey .survey .ensures)
 
 same-length : tie.Need-same-length
 same-length c = search needs
