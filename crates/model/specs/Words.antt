@@ -1,4 +1,4 @@
--- A link as words of memory, in the record store and in the work memory alike.
+-- A link as words of the record store.
 use Prim.Native.Nat.{ℕ, _+_}
 use mathlib.Core.List.{List, [], _∷_}
 use lib.ListN.{getD}

@@ -1,4 +1,4 @@
--- The graph in the first words of the work memory: sizes, first links, link counts, then the links' words. `f` is those words.
+-- The graph in the first words of the work memory: sizes, first links, link counts, then the links, two words each. `f` is those words.
 use Prim.Native.Nat.{ℕ, zero, suc, _+_, _*_, _-_, _≤_, _<_}
 use mathlib.Core.Path.{_≡_}
 use mathlib.Core.List.{List, [], _∷_}
@@ -8,31 +8,32 @@ use lib.Dec.{ltb}
 use Rattle.lists.specs.Lists.{pick}
 use Rattle.answer.specs.declared.ObjectId.{ObjectId}
 use Rattle.model.specs.Object.{Link, widest, widthOk}
-use Rattle.model.specs.Words.{linkWords, linkOfWords, linkAt}
+use Rattle.model.specs.Words.{linkOfWords}
 use Rattle.model.specs.Graph.{Graph}
 use Rattle.model.specs.Distance.{weight}
 use Rattle.work.specs.Areas.{Apart}
+use Rattle.work.specs.Packed.{packedWords, packedAt}
 use Rattle.work.specs.declared.Areas.{Areas}
 use Rattle.order_graph.specs.declared.Field.{Field}
 
 -- the links whose words begin at index j, k of them
 unfoldable pub linksFrom : List ℕ → ℕ → ℕ → List Link
 linksFrom f j zero = []
-linksFrom f j (suc k) = linkAt f j ∷ linksFrom f (j + linkWords) k
+linksFrom f j (suc k) = packedAt f j ∷ linksFrom f (j + packedWords) k
 
 -- where the links of a node begin, and how many it has
 abbrev pub linksAt : Areas → List ℕ → ℕ → ℕ
-linksAt a f i = a .links + getD f (a .firsts + i) 0 * linkWords
+linksAt a f i = a .links + getD f (a .firsts + i) 0 * packedWords
 
 abbrev pub linkCount : Areas → List ℕ → ℕ → ℕ
 linkCount a f i = getD f (a .counts + i) 0
 
 abbrev pub linkOf : Areas → List ℕ → ℕ → ℕ → Link
-linkOf a f i t = linkAt f (linksAt a f i + t * linkWords)
+linkOf a f i t = packedAt f (linksAt a f i + t * packedWords)
 
 -- the links of node i from the one with number t on
 abbrev pub linksAfter : Areas → List ℕ → ℕ → ℕ → List Link
-linksAfter a f i t = linksFrom f (linksAt a f i + t * linkWords) (linkCount a f i - t)
+linksAfter a f i t = linksFrom f (linksAt a f i + t * packedWords) (linkCount a f i - t)
 
 -- n nodes; past them nothing
 abbrev pub graphIn : Areas → ℕ → List ℕ → Graph
@@ -67,7 +68,7 @@ mostWeight = 8589934592
 -- the links of node i lie in the graph's words, have a known width, and go to other nodes of the n
 pub record TidyNode (a : Areas) (n : ℕ) (f : List ℕ) (i : ℕ) : Type 0 where
   pub few : linkCount a f i ≤ mostNodeLinks
-  pub within : linksAt a f i + linkCount a f i * linkWords ≤ a .keys
+  pub within : linksAt a f i + linkCount a f i * packedWords ≤ a .keys
   pub wide : (t : ℕ) → t < linkCount a f i → widthOk (linkOf a f i t .slot .width) ≡ true
   pub known : (t : ℕ) → t < linkCount a f i → linkOf a f i t .child < n
 

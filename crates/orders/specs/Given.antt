@@ -1,15 +1,15 @@
 -- A test of a graph's words, which the checker computes.
 use Prim.Native.Nat.{ℕ, zero, suc, _+_, _*_, _-_, _<_}
 use mathlib.Core.Path.{_≡_}
-use mathlib.Core.List.{List, _++_}
+use mathlib.Core.List.{List, [], _∷_, _++_}
 use mathlib.Core.Bool.{Bool, true, _&&_}
 use lib.ListN.{length, getD, take}
 use lib.Dec.{eqb, ltb, leb}
 use Rattle.regions.specs.Region.{Kept}
 use Rattle.model.specs.Object.{widthOk}
-use Rattle.model.specs.Words.{linkWords}
 use Rattle.model.specs.Graph.{Acyclic}
 use Rattle.work.specs.Areas.{areasOf, workNeed, graphWords}
+use Rattle.work.specs.Packed.{packedWords, mostHalf}
 use Rattle.work.specs.declared.Areas.{Areas}
 use Rattle.order_graph.specs.Graph.{graphOn, linkOf, linksAt, linkCount, mostNodes, mostNodeLinks, mostSize, Stands}
 use Rattle.work.specs.Views.{orderIn}
@@ -22,6 +22,12 @@ use Rattle.order.specs.declared.By.{By}
 abbrev pub space : ℕ
 space = 96
 
+-- two words in one, the first of both as the low half
+abbrev pub packed : List ℕ → List ℕ
+packed [] = []
+packed (x ∷ []) = []
+packed (x ∷ y ∷ ws) = (x + y * mostHalf) ∷ packed ws
+
 abbrev pub allBelow : ℕ → (ℕ → Bool) → Bool
 allBelow zero test = true
 allBelow (suc n) test = test n && allBelow n test
@@ -33,7 +39,7 @@ abbrev pub tidyNode : Areas → List ℕ → ℕ → Bool
 tidyNode a f i =
     ltb (getD f i 0) mostSize
     && (leb (linkCount a f i) mostNodeLinks
-    && (leb (linksAt a f i + linkCount a f i * linkWords) (length f)
+    && (leb (linksAt a f i + linkCount a f i * packedWords) (length f)
     && allBelow (linkCount a f i) (tidyLink a f i)))
 
 -- p nodes and k links, whose words are the whole list, with room for all areas in the work memory

@@ -3,15 +3,15 @@ use Prim.Native.Nat.{ℕ, _+_, _-_, _*_, _≤_, _<_}
 use mathlib.Core.Path.{_≡_}
 use mathlib.Core.List.{List}
 use lib.ListN.{length, getD}
-use Rattle.lists.specs.Lists.{part}
-use Rattle.regions.specs.Region.{region, Kept}
+use Rattle.regions.specs.Region.{Kept}
 use Rattle.model.specs.Graph.{graphOf, Acyclic}
-use Rattle.layout.specs.Words.{objectLimit, linkLimit, linksAt, linkWords}
+use Rattle.layout.specs.Words.{objectLimit, linkLimit, linksAt}
 use Rattle.layout.specs.Spans.{closedSpan}
 use Rattle.layout.specs.Decode.{decode}
 use Rattle.layout.specs.Known.{WordsRead}
 use Rattle.layout.specs.declared.state.State.{State}
 use Rattle.work.specs.Areas.{Apart}
+use Rattle.work.specs.Packed.{packedWords, Halves}
 use Rattle.work.specs.declared.Areas.{Areas}
 use Rattle.order_graph.specs.Graph.{graphOn, Stands}
 
@@ -19,7 +19,7 @@ use Rattle.order_graph.specs.Graph.{graphOn, Stands}
 pub record AreasFor (w : List ℕ) (a : Areas) : Type 0 where
   pub apart : Apart a
   pub nodes : a .nodes ≡ objectLimit w
-  pub words : a .keys ≡ a .links + linkLimit w * linkWords
+  pub words : a .keys ≡ a .links + linkLimit w * packedWords
 
 -- the closed objects' graph, of n nodes, stands in front of the work memory m
 pub record Standing (b w : List ℕ) (a : Areas) (n : ℕ) (m : List ℕ) : Type 0 where
@@ -43,15 +43,19 @@ pub record NodeOf (w : List ℕ) (i size first count : ℕ) : Type 0 where
 abbrev pub NodesIn : Areas → ℕ → List ℕ → List ℕ → Type 0
 NodesIn a n w m = (i : ℕ) → i < n → NodeOf w i (getD m i 0) (getD m (a .firsts + i) 0) (getD m (a .counts + i) 0)
 
--- the first n words of the links do
+-- n words of m from j on are the words of w from i on, two in one
+abbrev pub Packs : List ℕ → ℕ → List ℕ → ℕ → ℕ → Type 0
+Packs w i m j n = (t : ℕ) → t < n → Halves (getD w (i + t * 2) 0) (getD w (i + t * 2 + 1) 0) (getD m (j + t) 0)
+
+-- the first n words of the links stand in m
 abbrev pub LinksIn : Areas → ℕ → List ℕ → List ℕ → Type 0
-LinksIn a n w m = region (a .links) n m ≡ part (linksAt w) (linksAt w + n) w
+LinksIn a n w m = Packs w (linksAt w) m (a .links) n
 
 -- m became m′, and no other words change
 pub record Copied (w : List ℕ) (s : State) (a : Areas) (m m′ : List ℕ) : Type 0 where
   pub kept : Kept 0 (a .keys) m m′
   pub nodes : NodesIn a (s .closed) w m′
-  pub links : LinksIn a (s .links * linkWords) w m′
+  pub links : LinksIn a (s .links * packedWords) w m′
 
 -- ---- the two parts of the copy
 

@@ -3,12 +3,12 @@ use Prim.Native.Nat.{ℕ, _+_, _*_, _≤_}
 use mathlib.Core.Path.{_≡_}
 use native.Mathlib.Omega.{arith}
 use Rattle.model.specs.Judge.{mostNeed}
-use Rattle.model.specs.Words.{linkWords}
+use Rattle.work.specs.Packed.{packedWords}
 use Rattle.work.specs.declared.Areas.{Areas}
 
 -- the graph: three words for each node, and the links' words
 abbrev pub graphWords : ℕ → ℕ → ℕ
-graphWords nodes links = nodes * 3 + links * linkWords
+graphWords nodes links = nodes * 3 + links * packedWords
 
 -- behind it seven areas of a word for each node. Some have several names, since one array is done with before another begins there: the line
 -- and the order; the nodes that became ready and the places; and between two orders, where the spaces are found, three of an order's
