@@ -1,7 +1,7 @@
 // The rules (docs/RULES.md) as definitions, on lists and numbers alone (specs/), and the theorems about them (proofs/). For code there are
 // names for some of their numbers.
 
-// The words of a link, in the record store and in the work memory alike: its field's place, width and inner start, and its child.
+// The words of a link in the record store: its field's place, width and inner start, and its child.
 pub const LINK_WORDS: usize = 4;
 
 // How many bytes a field has at least and at most.

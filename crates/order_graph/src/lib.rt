@@ -1,12 +1,13 @@
 // Reading the graph in the first words of the work memory.
 use answer::ObjectId;
 use big_endian::capacity;
-use model::LINK_WORDS;
 use work::Areas;
+use work::MOST_HALF;
+use work::PACKED_WORDS;
 ghost use mathlib.Core.Path.{_≡_};
 ghost use Prim.Native.Nat.{_+_, _*_, _≤_, _<_};
 ghost use lib.ListN.{take};
-ghost use Rattle.model.specs.Words.{linkWords};
+ghost use Rattle.work.specs.Packed.{packedWords};
 ghost use Rattle.order_graph.specs.Graph.{AtNode, AtLink, FieldOf, EdgeOf, linkBy, linksAt, linkCount, objectOf, mostNodes};
 
 // A link: its field's place and width, and the child.
@@ -43,11 +44,11 @@ pub fn link_count(work: &[u64], a: Areas, n: usize, i: usize) -> usize
 // Where the words of link t of node i begin.
 fn words_at(work: &[u64], a: Areas, n: usize, i: usize, t: usize) -> usize
     requires { ⌜ AtLink a n i t (now work) ⌝ }
-    ensures { λ r. ⌜ (r + linkWords ≤ a .keys) × (r ≡ linksAt a (take (a .keys) (now (work .entry))) i + t * linkWords) ⌝ }
+    ensures { λ r. ⌜ (r + packedWords ≤ a .keys) × (r ≡ linksAt a (take (a .keys) (now (work .entry))) i + t * packedWords) ⌝ }
 {
     let at = a.firsts + i;
     let first = work[at] as usize;
-    a.links + first * LINK_WORDS + t * LINK_WORDS
+    a.links + first * PACKED_WORDS + t * PACKED_WORDS
 }
 
 // Link t of node i.
@@ -56,11 +57,13 @@ pub fn field_at(work: &[u64], a: Areas, n: usize, i: usize, t: usize) -> Field
     ensures { λ r. ⌜ FieldOf a n (take (a .keys) (now (work .entry))) i t (linkBy r) ⌝ }
 {
     let j = words_at(work, a, n, i, t);
+    let slot = work[j];
+    let target = work[j + 1];
     Field {
-        at: work[j] as usize,
-        width: work[j + 1] as usize,
-        inner: work[j + 2] as usize,
-        child: work[j + 3] as usize,
+        at: (slot % MOST_HALF) as usize,
+        width: (slot / MOST_HALF) as usize,
+        inner: (target % MOST_HALF) as usize,
+        child: (target / MOST_HALF) as usize,
     }
 }
 

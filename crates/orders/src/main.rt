@@ -2,14 +2,16 @@
 ghost use mathlib.Core.Path.{_≡_};
 ghost use mathlib.Core.Bool.{true};
 ghost use mathlib.Core.List.{_++_};
-ghost use Prim.Native.Nat.{_+_, _-_, _/_, _≤_};
-ghost use lib.ListN.{length};
+ghost use Prim.Native.Nat.{_+_, _-_, _*_, _/_, _≤_, _<_};
+ghost use lib.ListN.{length, getD};
 ghost use Rattle.model.specs.Words.{linkWords};
+ghost use Rattle.work.specs.Packed.{mostHalf};
 ghost use Rattle.order_fit.specs.Fit.{Placing};
 ghost use Rattle.order_survey.specs.Survey.{Surveyed, Distanced};
 ghost use Rattle.order.specs.Try.{Trying};
-ghost use Rattle.orders.specs.Given.{given, Loaded, Stood, Shown, Prepared};
+ghost use Rattle.orders.specs.Given.{packed, given, Loaded, Stood, Shown, Prepared};
 use answer::Overflow;
+use layout::words::word;
 use model::LINK_WORDS;
 use order::By;
 use order::find_spaces;
@@ -22,6 +24,7 @@ use report::print_next;
 use report::text;
 use report::value;
 use work::Areas;
+use work::MOST_HALF;
 
 // Enough words for the largest of the graphs.
 const SPACE: usize = 96;
@@ -132,39 +135,60 @@ fn load(words: &[u64], work: &mut [u64], at: usize)
     }
 }
 
+// Word i and the next, as halves of one.
+fn pair(words: &[u32], i: usize) -> u64
+    requires { ⌜ i + 1 < length (now words) ⌝ }
+    ensures { λ r. ⌜ r ≡ getD (now (words .entry)) i 0 + getD (now (words .entry)) (i + 1) 0 * mostHalf ⌝ }
+{
+    word(words, i) as u64 + word(words, i + 1) as u64 * MOST_HALF
+}
+
+// The links, two words in one, from place `at` of the memory on.
+fn load_links(words: &[u32], work: &mut [u64], at: usize)
+    requires { ⌜ at + length (packed (now words)) ≤ length (now work) ⌝ }
+    ensures { λ _. ⌜ Loaded (packed (now (words .entry))) at (now (work .entry)) (now (work .exit)) ⌝ }
+{
+    let end = words.len() / 2;
+    let mut i = 0;
+    while i < end {
+        work[at + i] = pair(words, i * 2);
+        i += 1;
+    }
+}
+
 // Nodes: p sizes, p numbers of first links, p counts of links. A link: field place, width, inner start, child. The last node is the root.
-fn show(name: &[u8], nodes: &[u64], links: &[u64], p: usize)
-    requires { ⌜ given p (length (now links) / linkWords) (now nodes ++ now links) ≡ true ⌝ }
+fn show(name: &[u8], nodes: &[u64], links: &[u32], p: usize)
+    requires { ⌜ given p (length (now links) / linkWords) (now nodes ++ packed (now links)) ≡ true ⌝ }
 {
     let mut space: [u64; SPACE] = [0; SPACE];
     let work: &mut [u64] = &mut space;
     load(nodes, work, 0);
-    load(links, work, nodes.len());
+    load_links(links, work, nodes.len());
     print_name(name);
     show_orders(work, Areas::of(p, links.len() / LINK_WORDS));
 }
 
 fn graph_5() {
     let nodes: [u64; 9] = [1, 2, 4, 0, 0, 1, 0, 1, 2];
-    let links: [u64; 12] = [0, 2, 0, 0, 0, 2, 0, 0, 2, 2, 0, 1];
+    let links: [u32; 12] = [0, 2, 0, 0, 0, 2, 0, 0, 2, 2, 0, 1];
     show(b"5", &nodes, &links, 3);
 }
 
 fn graph_11() {
     let nodes: [u64; 9] = [65531, 10, 4, 0, 0, 0, 0, 0, 2];
-    let links: [u64; 8] = [0, 2, 0, 0, 2, 2, 0, 1];
+    let links: [u32; 8] = [0, 2, 0, 0, 2, 2, 0, 1];
     show(b"11", &nodes, &links, 3);
 }
 
 fn graph_12() {
     let nodes: [u64; 9] = [65532, 10, 4, 0, 0, 0, 0, 0, 2];
-    let links: [u64; 8] = [0, 2, 0, 0, 2, 2, 0, 1];
+    let links: [u32; 8] = [0, 2, 0, 0, 2, 2, 0, 1];
     show(b"12", &nodes, &links, 3);
 }
 
 fn graph_13() {
     let nodes: [u64; 9] = [65532, 65532, 4, 0, 0, 0, 0, 0, 2];
-    let links: [u64; 8] = [0, 2, 0, 0, 2, 2, 0, 1];
+    let links: [u32; 8] = [0, 2, 0, 0, 2, 2, 0, 1];
     show(b"13", &nodes, &links, 3);
 }
 
@@ -193,7 +217,7 @@ const FOURTEEN_NODES: [u64; 21] = [
     2,
 ];
 
-const FOURTEEN_LINKS: [u64; 24] = [
+const FOURTEEN_LINKS: [u32; 24] = [
     0,
     2,
     0,
@@ -222,67 +246,67 @@ const FOURTEEN_LINKS: [u64; 24] = [
 
 fn graph_14() {
     let nodes: [u64; 21] = FOURTEEN_NODES;
-    let links: [u64; 24] = FOURTEEN_LINKS;
+    let links: [u32; 24] = FOURTEEN_LINKS;
     show(b"14", &nodes, &links, 7);
 }
 
 fn graph_links_x_y_x() {
     let nodes: [u64; 9] = [1, 1, 6, 0, 0, 0, 0, 0, 3];
-    let links: [u64; 12] = [0, 2, 0, 0, 2, 2, 0, 1, 4, 2, 0, 0];
+    let links: [u32; 12] = [0, 2, 0, 0, 2, 2, 0, 1, 4, 2, 0, 0];
     show(b"links x y x", &nodes, &links, 3);
 }
 
 fn graph_unreached_parent() {
     let nodes: [u64; 9] = [1, 3, 2, 0, 0, 1, 0, 1, 1];
-    let links: [u64; 8] = [1, 2, 0, 0, 0, 2, 0, 0];
+    let links: [u32; 8] = [1, 2, 0, 0, 0, 2, 0, 0];
     show(b"unreached parent", &nodes, &links, 3);
 }
 
 fn graph_equal_distances_ids_along() {
     let nodes: [u64; 15] = [65531, 65530, 5, 6, 4, 0, 0, 0, 1, 2, 0, 0, 1, 1, 2];
-    let links: [u64; 16] = [3, 2, 0, 0, 4, 2, 0, 1, 0, 2, 0, 2, 2, 2, 0, 3];
+    let links: [u32; 16] = [3, 2, 0, 0, 4, 2, 0, 1, 0, 2, 0, 2, 2, 2, 0, 3];
     show(b"equal distances ids along", &nodes, &links, 5);
 }
 
 fn graph_equal_distances_ids_other_way_round() {
     let nodes: [u64; 15] = [65530, 65531, 5, 6, 4, 0, 0, 0, 1, 2, 0, 0, 1, 1, 2];
-    let links: [u64; 16] = [3, 2, 0, 1, 4, 2, 0, 0, 0, 2, 0, 2, 2, 2, 0, 3];
+    let links: [u32; 16] = [3, 2, 0, 1, 4, 2, 0, 0, 0, 2, 0, 2, 2, 2, 0, 3];
     show(b"equal distances ids other way round", &nodes, &links, 5);
 }
 
 fn graph_lighter_link_second() {
     let nodes: [u64; 15] = [1, 3, 65530, 10, 10, 0, 0, 0, 0, 1, 0, 0, 0, 1, 4];
-    let links: [u64; 20] = [6, 4, 0, 0, 0, 2, 0, 2, 2, 2, 0, 3, 4, 4, 0, 1, 8, 2, 0, 1];
+    let links: [u32; 20] = [6, 4, 0, 0, 0, 2, 0, 2, 2, 2, 0, 3, 4, 4, 0, 1, 8, 2, 0, 1];
     show(b"lighter link second", &nodes, &links, 5);
 }
 
 fn graph_lighter_link_first() {
     let nodes: [u64; 15] = [1, 3, 65530, 10, 10, 0, 0, 0, 0, 1, 0, 0, 0, 1, 4];
-    let links: [u64; 20] = [6, 4, 0, 0, 0, 2, 0, 2, 2, 2, 0, 3, 4, 2, 0, 1, 6, 4, 0, 1];
+    let links: [u32; 20] = [6, 4, 0, 0, 0, 2, 0, 2, 2, 2, 0, 3, 4, 2, 0, 1, 6, 4, 0, 1];
     show(b"lighter link first", &nodes, &links, 5);
 }
 
 fn graph_different_ready_times() {
     let nodes: [u64; 15] = [65540, 65541, 6, 5, 4, 0, 0, 0, 1, 2, 0, 0, 1, 1, 2];
-    let links: [u64; 16] = [4, 2, 0, 0, 3, 2, 0, 1, 0, 2, 0, 2, 2, 2, 0, 3];
+    let links: [u32; 16] = [4, 2, 0, 0, 3, 2, 0, 1, 0, 2, 0, 2, 2, 2, 0, 3];
     show(b"different ready times", &nodes, &links, 5);
 }
 
 fn graph_three_weighs_more_than_two() {
     let nodes: [u64; 9] = [1, 10, 5, 0, 0, 0, 0, 0, 2];
-    let links: [u64; 8] = [0, 3, 0, 0, 3, 2, 0, 1];
+    let links: [u32; 8] = [0, 3, 0, 0, 3, 2, 0, 1];
     show(b"width 3 weighs more than width 2", &nodes, &links, 3);
 }
 
 fn graph_three_weighs_less_than_four() {
     let nodes: [u64; 9] = [10, 1, 7, 0, 0, 0, 0, 0, 2];
-    let links: [u64; 8] = [0, 4, 0, 1, 4, 3, 0, 0];
+    let links: [u32; 8] = [0, 4, 0, 1, 4, 3, 0, 0];
     show(b"width 3 weighs less than width 4", &nodes, &links, 3);
 }
 
 fn graph_least_of_two_paths() {
     let nodes: [u64; 15] = [7, 9, 5, 5, 4, 0, 0, 0, 1, 3, 0, 0, 1, 2, 2];
-    let links: [u64; 20] = [1, 4, 0, 0, 1, 2, 0, 1, 3, 2, 0, 0, 0, 2, 0, 2, 2, 2, 0, 3];
+    let links: [u32; 20] = [1, 4, 0, 0, 1, 2, 0, 1, 3, 2, 0, 0, 0, 2, 0, 2, 2, 2, 0, 3];
     show(b"least of two paths", &nodes, &links, 5);
 }
 
@@ -311,7 +335,7 @@ const SPACES_NODES: [u64; 21] = [
     3,
 ];
 
-const SPACES_LINKS: [u64; 24] = [
+const SPACES_LINKS: [u32; 24] = [
     0,
     2,
     0,
@@ -340,19 +364,19 @@ const SPACES_LINKS: [u64; 24] = [
 
 fn graph_spaces_by_distance() {
     let nodes: [u64; 21] = SPACES_NODES;
-    let links: [u64; 24] = SPACES_LINKS;
+    let links: [u32; 24] = SPACES_LINKS;
     show(b"spaces by distance", &nodes, &links, 7);
 }
 
 fn graph_child_in_space_0() {
     let nodes: [u64; 12] = [10, 40000, 40000, 10, 0, 0, 1, 2, 0, 1, 1, 3];
-    let links: [u64; 20] = [0, 2, 0, 0, 0, 2, 0, 0, 0, 2, 0, 0, 2, 4, 0, 1, 6, 4, 0, 2];
+    let links: [u32; 20] = [0, 2, 0, 0, 0, 2, 0, 0, 0, 2, 0, 0, 2, 4, 0, 1, 6, 4, 0, 2];
     show(b"child in space 0", &nodes, &links, 4);
 }
 
 fn graph_shared_child() {
     let nodes: [u64; 12] = [1, 3, 2, 8, 0, 0, 1, 2, 0, 1, 1, 2];
-    let links: [u64; 16] = [0, 2, 0, 0, 0, 2, 0, 0, 0, 4, 0, 2, 4, 4, 0, 1];
+    let links: [u32; 16] = [0, 2, 0, 0, 0, 2, 0, 0, 0, 4, 0, 2, 4, 4, 0, 1];
     show(b"shared child", &nodes, &links, 4);
 }
 

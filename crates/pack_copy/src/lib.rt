@@ -3,10 +3,12 @@ use layout::span::closed_span;
 use layout::state::State;
 use layout::words::LINKS_AT;
 use layout::words::word;
-use model::LINK_WORDS;
 use work::Areas;
-ghost use Prim.Native.Nat.{_*_};
-ghost use Rattle.layout.specs.Words.{linkWords};
+use work::MOST_HALF;
+use work::PACKED_WORDS;
+ghost use Prim.Native.Nat.{_+_, _*_, _<_};
+ghost use lib.ListN.{length, getD};
+ghost use Rattle.work.specs.Packed.{packedWords, Halves};
 ghost use Rattle.pack_copy.specs.Copy.{Copyable, Copied, NodesCopied, LinksCopied};
 
 // Each closed object's size, first link and link count.
@@ -28,17 +30,25 @@ fn copy_nodes(records: &[u32], s: State, a: Areas, work: &mut [u64])
     }
 }
 
-// The links' records, all of them, behind the nodes.
+// Word i of the record store and the next, as halves of one.
+fn pair(records: &[u32], i: usize) -> u64
+    requires { ⌜ i + 1 < length (now records) ⌝ }
+    ensures { λ r. ⌜ Halves (getD (now (records .entry)) i 0) (getD (now (records .entry)) (i + 1) 0) r ⌝ }
+{
+    word(records, i) as u64 + word(records, i + 1) as u64 * MOST_HALF
+}
+
+// The links' records, all of them, behind the nodes: two words in one.
 fn copy_links(records: &[u32], s: State, a: Areas, work: &mut [u64])
     requires { ⌜ Copyable (now records) s a (now work) ⌝ }
-    ensures { λ _. ⌜ LinksCopied a (s .links * linkWords) (now (records .entry)) (now (work .entry)) (now (work .exit)) ⌝ }
+    ensures { λ _. ⌜ LinksCopied a (s .links * packedWords) (now (records .entry)) (now (work .entry)) (now (work .exit)) ⌝ }
 {
     let base = LINKS_AT + s.objects * 2;
-    let end = s.links * LINK_WORDS;
+    let end = s.links * PACKED_WORDS;
     let mut i = 0;
     while i < end {
         let at = a.links + i;
-        work[at] = word(records, base + i) as u64;
+        work[at] = pair(records, base + i * 2);
         i += 1;
     }
 }

@@ -1,10 +1,15 @@
 // The work memory of a pack: where each of its arrays begins, how many words it needs, and those words cleared.
-use model::LINK_WORDS;
 ghost use mathlib.Core.Path.{_≡_};
 ghost use Prim.Native.Nat.{_≤_, _<_, _^_};
 ghost use lib.ListN.{length, replicate};
 ghost use Rattle.lists.specs.Lists.{over};
 ghost use Rattle.work.specs.Areas.{areasOf, workNeed};
+
+// The words of a link: its field's place and width in one, its inner start and its child in the other.
+pub const PACKED_WORDS: usize = 2;
+
+// Each half of a word is less than this.
+pub const MOST_HALF: u64 = 4294967296;
 
 // Where each array begins, and how many nodes there is room for. The sizes begin at 0.
 pub struct Areas {
@@ -33,7 +38,7 @@ impl Areas {
         requires { ⌜ (nodes < 2 ^ 32) × (links < 2 ^ 32) ⌝ }
         ensures { λ r. ⌜ r ≡ areasOf nodes links ⌝ }
     {
-        let g = nodes * 3 + links * LINK_WORDS;
+        let g = nodes * 3 + links * PACKED_WORDS;
         Areas {
             nodes,
             firsts: nodes,
