@@ -10,10 +10,10 @@ use Rattle.big_endian.specs.BigEndian.{capacity}
 use Rattle.big_endian.proofs.Laws.{capacity-rises}
 use Rattle.model.specs.Object.{Link, widest}
 use Rattle.model.proofs.Slots.{width-most}
-use Rattle.model.specs.Words.{linkWords, linkAt}
 use Rattle.model.specs.Distance.{weight}
 use Rattle.regions.specs.Region.{Kept}
 use Rattle.regions.proofs.Frame.{kept-less}
+use Rattle.work.specs.Packed.{packedWords, packedAt}
 use Rattle.work.specs.declared.Areas.{Areas}
 use Rattle.order_graph.specs.Graph.{graphIn, linkOf, linksAt, linksFrom, linksAfter, linkCount, Stands, AtNode, AtLink, FieldOf, EdgeOf}
 
@@ -25,16 +25,16 @@ module _ {a : Areas} {n i t : ℕ} {w : List ℕ} (s : AtLink a n i t w) where
   g = a .keys
 
   -- where the words of a link begin, and that they lie in front
-  pub words-are : a .links + getD w (a .firsts + i) 0 * linkWords + t * linkWords ≡ linksAt a (take g w) i + t * linkWords
+  pub words-are : a .links + getD w (a .firsts + i) 0 * packedWords + t * packedWords ≡ linksAt a (take g w) i + t * packedWords
   words-are = rw (getD-take g w (a .firsts + i) 0 (omega arith))
 
-  pub words-in : a .links + getD w (a .firsts + i) 0 * linkWords + t * linkWords + linkWords ≤ g
+  pub words-in : a .links + getD w (a .firsts + i) 0 * packedWords + t * packedWords + packedWords ≤ g
   words-in = omega (arith, words-are, s .node .graph .tidy .node i (s .node .inside) .within)
 
-  pub words-read : (j : ℕ) → j ≡ linksAt a (take g w) i + t * linkWords → FieldOf a n (take g w) i t (linkAt w j)
+  pub words-read : (j : ℕ) → j ≡ linksAt a (take g w) i + t * packedWords → FieldOf a n (take g w) i t (packedAt w j)
   words-read j e =
-      let b : j + linkWords ≤ g = omega (arith, words-in, words-are) in
-      let is : linkOf a (take g w) i t ≡ linkAt w j = rw (← e, getD-take g w j 0 (omega arith), getD-take g w (j + 1) 0 (omega arith), getD-take g w (j + 2) 0 (omega arith), getD-take g w (j + 3) 0 (omega arith)) in
+      let b : j + packedWords ≤ g = omega (arith, words-in, words-are) in
+      let is : linkOf a (take g w) i t ≡ packedAt w j = rw (← e, getD-take g w j 0 (omega arith), getD-take g w (j + 1) 0 (omega arith)) in
       let o = s .node .graph .tidy .node i (s .node .inside) in
       subst (FieldOf a n (take g w) i t) is (record { is = refl; narrow = width-most _ (o .wide t (s .some)); known = o .known t (s .some) })
 
@@ -75,7 +75,7 @@ pub links-next : (a : Areas) (f : List ℕ) (i t : ℕ) → t < linkCount a f i 
 unfolding linksFrom
 links-next a f i t h =
     let e : linkCount a f i - t ≡ suc (linkCount a f i - (t + 1)) = omega arith in
-    let z : linksAt a f i + t * linkWords + linkWords ≡ linksAt a f i + (t + 1) * linkWords = omega arith in
+    let z : linksAt a f i + t * packedWords + packedWords ≡ linksAt a f i + (t + 1) * packedWords = omega arith in
     rw (e, linksFrom, z)
 
 -- the links from one on that was read

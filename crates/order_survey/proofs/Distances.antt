@@ -9,12 +9,12 @@ use borrow.Author.Tests.{le-ltb, lt-ltb}
 use Rattle.big_endian.proofs.Laws.{capacity-rises}
 use Rattle.model.specs.Bag.{count}
 use Rattle.model.specs.Object.{Link, widest}
-use Rattle.model.specs.Words.{linkWords, linkAt}
 use Rattle.model.specs.Graph.{Graph, reached, Ranked, Acyclic, ParentsFirst}
 use Rattle.model.specs.Distance.{In, here, there, Path, start, along, Least, weight, distancesBy, distance}
 use Rattle.model.proofs.Slots.{width-most}
 use Rattle.model.proofs.Reach.{reached-rooted, reached-low}
 use Rattle.model.proofs.Distances.{in-kids, all-length, distance-least, distance-is-least}
+use Rattle.work.specs.Packed.{packedWords, packedAt}
 use Rattle.work.specs.declared.Areas.{Areas}
 use Rattle.order_graph.specs.Graph.{graphIn, linksFrom, linksAt, linkCount, linkOf, mostNodes, mostWeight, Tidy}
 use Rattle.order_survey.specs.Survey.{farAway}
@@ -26,11 +26,11 @@ Light g = (i : ℕ) (l : Link) → In l (g .links i) → weight g l < mostWeight
 -- ---- a tidy graph is light
 
 -- what holds of each link's words holds of the links read
-links-each : (P : Link → Type 0) (f : List ℕ) (j k : ℕ) → ((t : ℕ) → t < k → P (linkAt f (j + t * linkWords))) → (l : Link) → In l (linksFrom f j k) → P l
+links-each : (P : Link → Type 0) (f : List ℕ) (j k : ℕ) → ((t : ℕ) → t < k → P (packedAt f (j + t * packedWords))) → (l : Link) → In l (linksFrom f j k) → P l
 unfolding linksFrom
-links-each P f j (suc k) h l (here e) = let z : j + 0 * linkWords ≡ j = omega arith in rw (e, ← z) (h 0 (omega arith))
+links-each P f j (suc k) h l (here e) = let z : j + 0 * packedWords ≡ j = omega arith in rw (e, ← z) (h 0 (omega arith))
 links-each P f j (suc k) h l (there i) =
-    links-each P f (j + linkWords) k (λ t b. let z : j + linkWords + t * linkWords ≡ j + suc t * linkWords = omega arith in rw z (h (suc t) (omega arith))) l i
+    links-each P f (j + packedWords) k (λ t b. let z : j + packedWords + t * packedWords ≡ j + suc t * packedWords = omega arith in rw z (h (suc t) (omega arith))) l i
 
 -- only nodes below n have links
 pub node-links : (a : Areas) (n : ℕ) (f : List ℕ) (P : Link → Type 0) (i : ℕ) → (i < n → (t : ℕ) → t < linkCount a f i → P (linkOf a f i t))
@@ -42,8 +42,8 @@ node-links a n f P i h l k = go (decLe (suc i) n)
 
     go : Dec (i < n) → P l
     go (yes b) =
-        let z : linksAt a f i + 0 * linkWords ≡ linksAt a f i = omega arith in
-        links-each P f (linksAt a f i + 0 * linkWords) (linkCount a f i - 0) (λ m c. rw z (h b m (omega arith))) l (rw (lt-ltb i n b) at k)
+        let z : linksAt a f i + 0 * packedWords ≡ linksAt a f i = omega arith in
+        links-each P f (linksAt a f i + 0 * packedWords) (linkCount a f i - 0) (λ m c. rw z (h b m (omega arith))) l (rw (lt-ltb i n b) at k)
     go (no b) = none (rw (le-ltb i n (omega arith)) at k)
 
 pub tidy-light : {a : Areas} {n : ℕ} {f : List ℕ} → Tidy a n f → Light (graphIn a n f)

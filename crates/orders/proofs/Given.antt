@@ -10,10 +10,10 @@ use borrow.Author.Tests.{ltb-true, leb-true, eqb-true, eqb-false}
 use Rattle.lists.proofs.Same.{and-left, and-right}
 use Rattle.regions.proofs.Frame.{kept-then, kept-less}
 use Rattle.model.specs.Object.{widthOk}
-use Rattle.model.specs.Words.{linkWords}
 use Rattle.model.specs.Graph.{Ranked, Acyclic}
 use Rattle.model.proofs.Distances.{kid-link}
 use Rattle.work.specs.Areas.{areasOf, workNeed, graphWords, areas-apart}
+use Rattle.work.specs.Packed.{packedWords}
 use Rattle.work.specs.declared.Areas.{Areas}
 use Rattle.order_graph.specs.Graph.{graphIn, linkOf, linksAt, linkCount, mostNodes, mostNodeLinks, mostSize, Tidy}
 use Rattle.order_graph.proofs.Links.{front-kept, stands-kept}
@@ -45,7 +45,7 @@ both a b e = (and-left a b e, and-right a b e)
 record Node (a : Areas) (f : List ℕ) (i : ℕ) : Type 0 where
   light : getD f i 0 < mostSize
   few : linkCount a f i ≤ mostNodeLinks
-  within : linksAt a f i + linkCount a f i * linkWords ≤ length f
+  within : linksAt a f i + linkCount a f i * packedWords ≤ length f
   wide : (t : ℕ) → t < linkCount a f i → widthOk (linkOf a f i t .slot .width) ≡ true
   lower : (t : ℕ) → t < linkCount a f i → linkOf a f i t .child < i
 
@@ -53,7 +53,7 @@ node-told : (a : Areas) (f : List ℕ) (i : ℕ) → tidyNode a f i ≡ true →
 node-told a f i e =
     let (light, e₁) = both (ltb (getD f i 0) mostSize) _ e in
     let (few, e₂) = both (leb (linkCount a f i) mostNodeLinks) _ e₁ in
-    let (within, links) = both (leb (linksAt a f i + linkCount a f i * linkWords) (length f)) _ e₂ in
+    let (within, links) = both (leb (linksAt a f i + linkCount a f i * packedWords) (length f)) _ e₂ in
     let link : (t : ℕ) → t < linkCount a f i → (widthOk (linkOf a f i t .slot .width) ≡ true) × (ltb (linkOf a f i t .child) i ≡ true) =
     λ t h. both (widthOk (linkOf a f i t .slot .width)) (ltb (linkOf a f i t .child) i) (below-at (linkCount a f i) (tidyLink a f i) links t h) in
     record {

@@ -1,12 +1,13 @@
--- The turns of `load`: word after word.
+-- The turns of `load` and of `load_links`: word after word.
 use mathlib.Core.Path.{_≡_, refl, sym, ap, _∙_}
-use Prim.Native.Nat.{ℕ, suc, _+_, _≤_, _<_}
+use Prim.Native.Nat.{ℕ, zero, suc, _+_, _*_, _/_, _≤_, _<_}
 use mathlib.Core.List.{List, [], _∷_, _++_, append-nil, append-assoc}
 use native.Mathlib.Omega.{arith}
 use native.Mathlib.Numerals.{add-one}
 use lib.ListN.{length, getD, set, take, length-set}
 use lib.Seq.{take-suc, take-suc-set, take-all}
-use Rattle.orders.specs.Given.{Loaded}
+use Rattle.work.specs.Packed.{mostHalf}
+use Rattle.orders.specs.Given.{packed, Loaded}
 
 -- i words stand in the memory
 pub record Loading (f : List ℕ) (at i : ℕ) (w₀ w : List ℕ) : Type 0 where
@@ -31,3 +32,25 @@ module _ {f : List ℕ} {at i : ℕ} {w₀ w : List ℕ} (s : Loading f at i w�
   loading-all h =
       let e : i ≡ length f = omega (arith, s .some) in
       record { long = s .long; front = rw (← e) (s .front ∙ ap (λ (l : List ℕ). take at w₀ ++ l) (take-all i f h)) }
+
+-- ---- two words in one
+
+pub packed-length : (ws : List ℕ) → length (packed ws) ≡ length ws / 2
+packed-length [] = refl
+packed-length (x ∷ []) = refl
+packed-length (x ∷ y ∷ ws) = omega (arith, packed-length ws)
+
+packed-at : (ws : List ℕ) (i : ℕ) → i < length (packed ws) → getD (packed ws) i 0 ≡ getD ws (i * 2) 0 + getD ws (i * 2 + 1) 0 * mostHalf
+packed-at [] i h = absurd (omega arith)
+packed-at (x ∷ []) i h = absurd (omega arith)
+packed-at (x ∷ y ∷ ws) zero h = refl
+packed-at (x ∷ y ∷ ws) (suc i) h =
+    let e : suc i * 2 ≡ suc (suc (i * 2)) = omega arith in
+    let k : suc (suc (i * 2)) + 1 ≡ suc (suc (i * 2 + 1)) = omega arith in
+    rw (e, k) (packed-at ws i (omega arith))
+
+pub packed-next : (ws : List ℕ) {at i v : ℕ} {w₀ w : List ℕ} → Loading (packed ws) at i w₀ w → at + length (packed ws) ≤ length w₀ → i < length ws / 2
+    → v ≡ getD ws (i * 2) 0 + getD ws (i * 2 + 1) 0 * mostHalf → Loading (packed ws) at (i + 1) w₀ (set w (at + i) v)
+packed-next ws {at} {i} s room h e =
+    let b : i < length (packed ws) = omega (arith, packed-length ws) in
+    rw (e, ← packed-at ws i b) (loading-next s room b)

@@ -15,7 +15,9 @@ use Rattle.layout.specs.Fields.{fieldsOk}
 use Rattle.layout.specs.Decode.{closedTo, decode}
 use Rattle.layout.specs.Known.{Sound}
 use Rattle.layout.proofs.Facts.{sound-tables, sound-of}
+use Rattle.work.specs.Packed.{packedWords, Halves, packedAt}
 use Rattle.order_graph.specs.Graph.{linksFrom}
+use Rattle.pack_copy.specs.Copy.{Packs}
 use Rattle.model.proofs.Slots.{slot-wide}
 use Rattle.steps.proofs.Fields.{first-field, other-fields}
 use Rattle.steps.proofs.Formed.{sound-formed}
@@ -47,15 +49,30 @@ closed-past b w n i h = List·getD-eq-default (closedTo b w n) noObject {n = i} 
 
 -- ---- links in a memory
 
-pub links-region : (f : List ℕ) (k j : ℕ) → j + k * linkWords ≤ length f → linksFrom f j k ≡ linksOf (region j (k * linkWords) f)
+pub packs-from : (w f : List ℕ) (i j m n : ℕ) → Packs w i f j (m + n) → Packs w (i + m * 2) f (j + m) n
+packs-from w f i j m n p t h =
+    let x : i + m * 2 + t * 2 ≡ i + (m + t) * 2 = omega arith in
+    let y : j + m + t ≡ j + (m + t) = omega arith in
+    rw (x, y) (p (m + t) (omega arith))
+
+link-packed : (w f : List ℕ) (i j : ℕ) → Packs w i f j packedWords → packedAt f j ≡ linkAt w i
+link-packed w f i j h =
+    let three : i + 2 + 1 ≡ i + 3 = omega arith in
+    let slot : Halves (getD w i 0) (getD w (i + 1) 0) (getD f j 0) = rw (add-zero i, add-zero j) at (h 0 (omega arith)) in
+    let target : Halves (getD w (i + 2) 0) (getD w (i + 3) 0) (getD f (j + 1) 0) = rw three at (h 1 (omega arith)) in
+    rw (slot .low-is, slot .high-is, target .low-is, target .high-is)
+
+pub links-packed : (w f : List ℕ) (k i j : ℕ) → i + k * linkWords ≤ length w → Packs w i f j (k * packedWords) → linksFrom f j k ≡ linksOf (region i (k * linkWords) w)
 unfolding linksFrom linksOf
-links-region f zero j h = refl
-links-region f (suc k) j h =
+links-packed w f zero i j h p = refl
+links-packed w f (suc k) i j h p =
     let n : suc k * linkWords ≡ suc (suc (suc (suc (k * linkWords)))) = omega arith in
-    let a : j + 1 + 1 ≡ j + 2 = omega arith in
-    let b : j + 2 + 1 ≡ j + 3 = omega arith in
-    let c : j + 3 + 1 ≡ j + linkWords = omega arith in
-    rw (n, drop-first j f (omega arith), drop-first (j + 1) f (omega arith), a, drop-first (j + 2) f (omega arith), b, drop-first (j + 3) f (omega arith), c, links-region f k (j + linkWords) (omega arith))
+    let a : i + 1 + 1 ≡ i + 2 = omega arith in
+    let b : i + 2 + 1 ≡ i + 3 = omega arith in
+    let c : i + 3 + 1 ≡ i + linkWords = omega arith in
+    let one = link-packed w f i j (λ t b. p t (omega arith)) in
+    let more = links-packed w f k (i + linkWords) (j + packedWords) (omega arith) (packs-from w f i j packedWords (k * packedWords) (λ t b. p t (omega arith))) in
+    rw (n, drop-first i w (omega arith), drop-first (i + 1) w (omega arith), a, drop-first (i + 2) w (omega arith), b, drop-first (i + 3) w (omega arith), c, one, more)
 
 -- what a right field's tests say of its link
 pub record Right (kids : ℕ) (l : Link) : Type 0 where
@@ -63,16 +80,16 @@ pub record Right (kids : ℕ) (l : Link) : Type 0 where
   pub lower : l .child < kids
 
 pub fields-right : (kids from : ℕ) (bs f : List ℕ) (k j : ℕ) → fieldsOk kids from bs (linksFrom f j k) ≡ true
-    → (t : ℕ) → t < k → Right kids (linkAt f (j + t * linkWords))
+    → (t : ℕ) → t < k → Right kids (packedAt f (j + t * packedWords))
 unfolding linksFrom
 fields-right kids from bs f zero j h t b = absurd (omega arith)
 fields-right kids from bs f (suc k) j h zero b =
-    let r = first-field kids from bs (linkAt f j) (linksFrom f (j + linkWords) k) h in
-    rw (add-zero j) (record { wide = slot-wide (linkAt f j .slot) (r .right); lower = r .known })
+    let r = first-field kids from bs (packedAt f j) (linksFrom f (j + packedWords) k) h in
+    rw (add-zero j) (record { wide = slot-wide (packedAt f j .slot) (r .right); lower = r .known })
 fields-right kids from bs f (suc k) j h (suc t) b =
-    let l = linkAt f j in
-    let e : j + linkWords + t * linkWords ≡ j + suc t * linkWords = omega arith in
-    rw e at (fields-right kids (l .slot .at + l .slot .width) bs f k (j + linkWords) (other-fields kids from bs l (linksFrom f (j + linkWords) k) h) t (omega arith))
+    let l = packedAt f j in
+    let e : j + packedWords + t * packedWords ≡ j + suc t * packedWords = omega arith in
+    rw e at (fields-right kids (l .slot .at + l .slot .width) bs f k (j + packedWords) (other-fields kids from bs l (linksFrom f (j + packedWords) k) h) t (omega arith))
 
 -- ---- as a graph: children have lower ids
 

@@ -6,28 +6,31 @@ use mathlib.Core.List.{List}
 use native.Mathlib.Omega.{arith}
 use native.Mathlib.Decide.{decLe}
 use borrow.Author.Tests.{lt-ltb, le-ltb}
-use lib.ListN.{length, getD, take, drop}
-use lib.Seq.{getD-take, take-add, drop-at, drop-drop, length-take-le}
+use lib.ListN.{length, getD, take}
+use lib.Seq.{getD-take}
 use Rattle.lists.proofs.Runs.{length-part}
 use Rattle.regions.specs.Region.{Kept}
 use Rattle.regions.proofs.Frame.{kept-then, kept-less, kept-at}
 use Rattle.model.specs.Graph.{graphOf}
-use Rattle.layout.specs.Words.{linkLimit, closedCount, linkBeginsAt, linkWords, linkArea}
+use Rattle.layout.specs.Words.{linkLimit, closedCount, linkBeginsAt, linkWords}
+use Rattle.layout.specs.Words as records
 use Rattle.layout.specs.Decode.{closedAt, decode}
 use Rattle.layout.specs.Decode as store
 use Rattle.layout.specs.Known.{Sound, Read}
 use Rattle.layout.specs.declared.state.State.{State}
 use Rattle.layout.proofs.Facts.{sound-known}
+use Rattle.layout.proofs.Links.{link-words}
 use Rattle.work.specs.Areas.{Apart}
+use Rattle.work.specs.Packed.{packedWords}
 use Rattle.work.specs.declared.Areas.{Areas}
 use Rattle.order_graph.specs.Graph.{linksFrom, linksAt, linkCount, graphIn, graphOn, TidyNode, Stands}
-use Rattle.pack_copy.specs.Copy.{AreasFor, Standing, NodeOf, NodesIn, LinksIn, NodesCopied, LinksCopied, Copyable, Copied}
+use Rattle.pack_copy.specs.Copy.{AreasFor, Standing, NodeOf, NodesIn, Packs, LinksIn, NodesCopied, LinksCopied, Copyable, Copied}
 use Rattle.steps.proofs.Tallies.{closed-at}
 use Rattle.steps.proofs.Formed.{closed-right}
-use Rattle.pack_copy.proofs.ClosedObjects.{entries, closed-past, links-region, fields-right, sound-acyclic}
+use Rattle.pack_copy.proofs.ClosedObjects.{entries, closed-past, packs-from, links-packed, fields-right, sound-acyclic}
 
 module _ {a : Areas} {b w m m₂ : List ℕ} (s : Sound b w) (f : AreasFor w a) (room : a .end ≤ length m) (kept : Kept 0 (a .keys) m m₂)
-    (ns : NodesIn a (closedCount w) w m₂) (ls : LinksIn a (linkLimit w * linkWords) w m₂) where
+    (ns : NodesIn a (closedCount w) w m₂) (ls : LinksIn a (linkLimit w * packedWords) w m₂) where
   -- the memory's first words
   abbrev front : List ℕ
   front = take (a .keys) m₂
@@ -42,17 +45,16 @@ module _ {a : Areas} {b w m m₂ : List ℕ} (s : Sound b w) (f : AreasFor w a) 
   node-words i h =
       rw (node-word i (omega arith), node-word (a .firsts + i) (omega arith), node-word (a .counts + i) (omega arith)) (ns i h)
 
-  link-area : drop (a .links) front ≡ linkArea w
-  link-area =
-      rw (f .words) (ap (drop (a .links)) (take-add (a .links) (linkLimit w * linkWords) m₂))
-      ∙ drop-at (take (a .links) m₂) _ (a .links) (length-take-le (a .links) m₂ (omega (arith, long)))
-      ∙ ls
+  link-word : (t : ℕ) → t < linkLimit w * packedWords → getD front (a .links + t) 0 ≡ getD m₂ (a .links + t) 0
+  link-word t h = getD-take (a .keys) m₂ (a .links + t) 0 (omega (arith, f .words))
 
-  links-same : (from to : ℕ) → from ≤ to → to ≤ linkLimit w → linksFrom front (a .links + from * linkWords) (to - from) ≡ store.linksFrom w from to
+  links-same : (from to : ℕ) → from ≤ to → to ≤ linkLimit w → linksFrom front (a .links + from * packedWords) (to - from) ≡ store.linksFrom w from to
   links-same from to h k =
-      let n : (to - from) * linkWords ≡ to * linkWords - from * linkWords = omega arith in
-      links-region front (to - from) (a .links + from * linkWords) (omega (arith, length-take-le (a .keys) m₂ (omega (arith, long))))
-      ∙ rw (← drop-drop (from * linkWords) (a .links) front, link-area, n)
+      let x : records.linksAt w + from * packedWords * 2 ≡ records.linksAt w + from * linkWords = omega arith in
+      let n : (to - from) * linkWords ≡ records.linksAt w + to * linkWords - (records.linksAt w + from * linkWords) = omega arith in
+      let packs : Packs w (records.linksAt w) front (a .links) (linkLimit w * packedWords) = λ t b. rw (link-word t b) (ls t b) in
+      links-packed w front (to - from) (records.linksAt w + from * linkWords) (a .links + from * packedWords) (omega (arith, s .head .room)) (rw x at (packs-from w front (records.linksAt w) (a .links) (from * packedWords) ((to - from) * packedWords) (λ t b. packs t (omega arith))))
+      ∙ rw (n, link-words w from to k)
 
   node-links : (i : ℕ) → i < closedCount w → linksFrom front (linksAt a front i) (linkCount a front i) ≡ closedAt b w i .links
   node-links i h =
@@ -117,7 +119,7 @@ graph-copied r f long c =
 
 -- both parts
 pub all-copied : {a : Areas} {w m m₁ m₂ : List ℕ} {s : State} → Copyable w s a m → NodesCopied a (s .closed) w m m₁
-    → LinksCopied a (s .links * linkWords) w m₁ m₂ → Copied w s a m m₂
+    → LinksCopied a (s .links * packedWords) w m₁ m₂ → Copied w s a m m₂
 all-copied {a} {w} {m} {m₁} {m₂} {s} c ns ls = record {
   kept = kept-then (kept-less (ns .kept) 0 (a .keys) (omega arith) (omega arith)) (kept-less (ls .kept) 0 (a .keys) (omega arith) (omega arith));
   nodes = λ i h. rw (same i (omega (arith, few, apart)), same (a .firsts + i) (omega (arith, few, apart)), same (a .counts + i) (omega (arith, few, apart))) (ns .node i h);

@@ -5,16 +5,15 @@ use mathlib.Core.List.{List}
 use native.Mathlib.Omega.{arith}
 use lib.ListN.{length, getD, set, length-set}
 use lib.Seq.{getD-set-same, getD-set-other}
-use Rattle.lists.proofs.Runs.{part-last}
 use Rattle.regions.specs.Region.{Kept}
-use Rattle.regions.proofs.Laws.{region-push}
 use Rattle.regions.proofs.Frame.{kept-all, kept-then, kept-set}
-use Rattle.layout.specs.Words.{linkLimit, linksAt, linkWords}
+use Rattle.layout.specs.Words.{linkLimit, linksAt}
 use Rattle.layout.specs.Spans.{closedSpan, Lies}
 use Rattle.layout.specs.declared.span.Span.{Span}
 use Rattle.layout.specs.declared.state.State.{State}
 use Rattle.steps.proofs.Tables.{below-more}
 use Rattle.work.specs.Areas.{Apart}
+use Rattle.work.specs.Packed.{packedWords, Halves}
 use Rattle.work.specs.declared.Areas.{Areas}
 use Rattle.pack_copy.specs.Copy.{Copyable, NodeOf, NodesCopied, LinksCopied}
 
@@ -23,7 +22,7 @@ module _ {a : Areas} {w m : List ℕ} where
   nodes-none = record { kept = kept-all; node = λ i h. absurd (omega arith) }
 
   pub links-none : LinksCopied a 0 w m m
-  links-none = record { kept = kept-all; words = let e : linksAt w + 0 - linksAt w ≡ 0 = omega arith in rw e }
+  links-none = record { kept = kept-all; words = λ i h. absurd (omega arith) }
 
 -- all of them
 module _ {a : Areas} {n all : ℕ} {w m m′ : List ℕ} (e : n ≡ all) where
@@ -74,7 +73,7 @@ module _ {a : Areas} {s : State} {w m₀ : List ℕ} (c : Copyable w s a m₀) w
   node-in : {n : ℕ} → n < s .closed → n < a .nodes
   node-in h = omega (arith, ap (λ (x : State). x .objects) (c .read .is), c .areas .nodes, c .read .bounds .closed)
 
-  link-in : {n : ℕ} → n < s .links * linkWords → n < linkLimit w * linkWords
+  link-in : {n : ℕ} → n < s .links * packedWords → n < linkLimit w * packedWords
   link-in h = rw (ap (λ (x : State). x .links) (c .read .is)) at h
 
   pub nodes-next : {n size first count : ℕ} {m : List ℕ} → n < s .closed → NodeOf w n size first count → NodesCopied a n w m₀ m
@@ -108,17 +107,20 @@ module _ {a : Areas} {s : State} {w m₀ : List ℕ} (c : Copyable w s a m₀) w
       let long = t .kept .long in
       (omega (arith, h, long, x, c .long), omega (arith, h, long, x, c .long), omega (arith, h, long, x, c .long))
 
-  pub links-next : {n v : ℕ} {m : List ℕ} → n < s .links * linkWords → v ≡ getD w (linksAt w + n) 0 → LinksCopied a n w m₀ m → LinksCopied a (n + 1) w m₀ (set m (a .links + n) v)
+  pub links-next : {n v : ℕ} {m : List ℕ} → n < s .links * packedWords → Halves (getD w (linksAt w + n * 2) 0) (getD w (linksAt w + n * 2 + 1) 0) v
+      → LinksCopied a n w m₀ m → LinksCopied a (n + 1) w m₀ (set m (a .links + n) v)
   links-next {n} {v} {m} k e t =
       let h = link-in k in
-      let long = c .read .tested .head .room in
-      let one : linksAt w + (n + 1) ≡ linksAt w + n + 1 = omega arith in
+      let m′ : List ℕ = set m (a .links + n) v in
+      let new : getD m′ (a .links + n) 0 ≡ v = getD-set-same m (a .links + n) v 0 (omega (arith, h, t .kept .long, c .areas .words, c .areas .apart, c .long)) in
       record {
         kept = kept-then (t .kept) (kept-set (a .links) (a .keys) m (a .links + n) v (omega arith) (omega (arith, h, c .areas .words)));
         words =
-            region-push (a .links) n m v (omega (arith, h, t .kept .long, c .areas .words, c .areas .apart, c .long))
-            ∙ rw (t .words, one, part-last (linksAt w) (linksAt w + n) w (omega arith) (omega (arith, h, long)), e);
+            λ i b.
+            below-more (λ i. Halves (getD w (linksAt w + i * 2) 0) (getD w (linksAt w + i * 2 + 1) 0) (getD m′ (a .links + i) 0)) n
+            (λ i b. rw (getD-set-other m (a .links + n) (a .links + i) v 0 (omega arith)) (t .words i b))
+            (rw new e) i (omega arith);
       }
 
-  pub link-room : {n : ℕ} {m : List ℕ} → n < s .links * linkWords → LinksCopied a n w m₀ m → a .links + n < length m
+  pub link-room : {n : ℕ} {m : List ℕ} → n < s .links * packedWords → LinksCopied a n w m₀ m → a .links + n < length m
   link-room k t = omega (arith, link-in k, t .kept .long, c .areas .words, c .areas .apart, c .long)

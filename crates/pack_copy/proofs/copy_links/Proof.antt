@@ -30,11 +30,14 @@ loop-holds c = (search needs, links-none)
 add-at : tie.Need-add-at Inv-loop μ-loop
 add-at c = search needs
 
-add-word : tie.Need-add-word Inv-loop μ-loop
-add-word c = search needs
+mul-pair : tie.Need-mul-pair Inv-loop μ-loop
+mul-pair c = search needs
 
-word-requires : tie.Need-word-requires Inv-loop μ-loop
-word-requires c κs = search needs
+add-pair : tie.Need-add-pair Inv-loop μ-loop
+add-pair c = search needs
+
+pair-requires : tie.Need-pair-requires Inv-loop μ-loop
+pair-requires c κs = search needs
 
 mul-work : tie.Need-mul-work Inv-loop μ-loop
 mul-work c = search needs
@@ -54,7 +57,7 @@ loop-again : tie.Need-loop-again Inv-loop μ-loop
 loop-again c =
     let at-loop = c .before .before .before in
     let pre = at-loop .before .before .before .before .before .pre in
-    (search needs, links-next pre (search needs) (rw (ap (λ (x : State). x .objects) (pre .read .is)) at (c .word .ensures .0)) (at-loop .loop .inv .1))
+    (search needs, links-next pre (search needs) (rw (ap (λ (x : State). x .objects) (pre .read .is)) at (c .pair .ensures)) (at-loop .loop .inv .1))
 
 same-length : tie.Need-same-length Inv-loop μ-loop
 same-length c = search needs
@@ -73,8 +76,9 @@ copy-links-spec =
     mul-end
     loop-holds
     add-at
-    add-word
-    word-requires
+    mul-pair
+    add-pair
+    pair-requires
     mul-work
     slice-write-work
     add-i
