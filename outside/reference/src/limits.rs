@@ -29,5 +29,5 @@ pub fn record_need(pieces: u64, links: u64) -> u64 {
 
 /// Words of pack's work memory for the limits.
 pub fn work_need(pieces: u64, links: u64) -> u64 {
-    10 * pieces + 4 * links
+    10 * pieces + 2 * links
 }

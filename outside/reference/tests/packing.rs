@@ -85,7 +85,7 @@ fn other_refusals_leave_the_work_memory() {
 fn the_need_goes_by_the_limits_and_not_by_the_counts() {
     let mut session = Session::new(16_384, 65_536, 8);
     session.piece(b"x", &[]);
-    assert_eq!(session.work, 10 * 16_384 + 4 * 65_536);
+    assert_eq!(session.work, 10 * 16_384 + 2 * 65_536);
     assert_eq!(session.pack(0, 1).answer.number, 0);
     session.work -= 1;
     assert_eq!(session.pack(0, 1).answer, Answer::bare(13));

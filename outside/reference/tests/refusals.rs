@@ -197,7 +197,7 @@ fn pack_tells_13_9_4_10_11_in_this_order() {
     session.piece(b"x", &[]);
     session.piece(&vec![1; 65_530], &[(2, 0)]);
     session.piece(&[], &[(2, 1), (2, 0)]);
-    let need = 10 * 4 + 4 * 3;
+    let need = 10 * 4 + 2 * 3;
     let pack = |id, output, work| Call::Pack { id, output, work };
     session.open();
     assert_eq!(session.run(pack(9, 0, need - 1)), told(13, [0; 4]));

@@ -287,7 +287,7 @@ fn a_long_chain() {
     pair.run(&Call::Pack {
         id: count - 1,
         output: 1_000,
-        work: 10 * 400 + 4 * 400,
+        work: 10 * 400 + 2 * 400,
     });
     assert_eq!(pair.history.table_length(count - 1), Some(799));
     assert_eq!(pair.told[0], 3 * 400 + 1);
@@ -319,7 +319,7 @@ fn all_pieces_and_links_of_the_limits() {
     pair.run(&Call::Pack {
         id: pieces - 1,
         output: 300_000,
-        work: 10 * 16_384 + 4 * 65_536,
+        work: 10 * 16_384 + 2 * 65_536,
     });
     assert_eq!(pair.history.tally().objects, 16_384);
     assert_eq!((pair.linked, pair.inner[2]), (1, 1));
