@@ -23,7 +23,7 @@ pub struct Line {
 }
 
 fn main() {
-    if spaces::asked() {
+    if spaces::asked() || ordering::asked() {
         return;
     }
     println!(

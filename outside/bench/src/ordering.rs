@@ -1,5 +1,9 @@
 //! Packs by each of the three orders beside those of the plain packer, and what
 //! each order alone takes where the one before does not fit.
+//!
+//! `cargo run --offline --profile bench --package bench -- fan "kahn order"` packs
+//! the largest fan again and again for some seconds, for a profiler to look at;
+//! with `plain` as a third word the plain packer does.
 
 use crate::timing::microseconds;
 use bindings::calls;
@@ -11,6 +15,11 @@ use reference::graph::Graph;
 use reference::orders;
 use reference::random::Numbers;
 use reference::sound::sound;
+use std::env;
+use std::time::{Duration, Instant};
+
+/// How long one pack is repeated for a profiler.
+const LONG: Duration = Duration::from_secs(6);
 
 const COUNTS: [usize; 2] = [4_000, 16_000];
 const ROUNDS: usize = 8;
@@ -47,6 +56,28 @@ type Times = [f64; 2];
 struct Line {
     what: String,
     times: [Times; 2],
+}
+
+/// Packs one graph again and again, if the words name a shape and an order.
+pub fn asked() -> bool {
+    let words: Vec<String> = env::args().skip(1).collect();
+    let words: Vec<&str> = words.iter().map(String::as_str).collect();
+    let (shape, order, pack) = match words[..] {
+        [shape, order] => (shape, order, Case::pack as fn(&mut Case)),
+        [shape, order, "plain"] => (shape, order, Case::pack_plainly as fn(&mut Case)),
+        _ => return false,
+    };
+    let shape = SHAPES.iter().find(|known| known.name == shape);
+    let order = ORDERS.into_iter().find(|&known| name(known) == order);
+    let (Some(shape), Some(order)) = (shape, order) else {
+        return false;
+    };
+    let mut case = Case::new(shape, COUNTS[1], order);
+    let began = Instant::now();
+    while began.elapsed() < LONG {
+        pack(&mut case);
+    }
+    true
 }
 
 pub fn print() {
