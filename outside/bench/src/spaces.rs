@@ -212,7 +212,7 @@ fn counted(shape: &Shape, count: usize) -> [Cost; 2] {
         .expect("valgrind is at hand");
     let said = String::from_utf8_lossy(&run.stderr);
     assert!(run.status.success(), "{said}");
-    // Before the first order, the plain one, nothing, the distance order, the
+    // Before the first order, the plain one, the distances, the distance order, the
     // spaces, the order by them; what is left is not numbered.
     let parts = [6, 7].map(|part| folder.join(format!("out.{part}")).exists());
     assert_eq!(parts, [true, false], "{ORDER} is not entered three times");
