@@ -54,17 +54,24 @@ pub fn by_keys(session: &Session, root: u32, incoming: &[u32], keys: &[u64]) -> 
     let mut ready = BinaryHeap::with_capacity(waiting.len());
     let mut placing = Placing::new(root);
     let mut turn = 0_u32;
-    ready.push(Reverse((keys[root as usize], turn, root)));
-    while let Some(Reverse((_, _, id))) = ready.pop() {
+    ready.push(Reverse(entry(keys[root as usize], turn, root)));
+    while let Some(Reverse(least)) = ready.pop() {
+        let id = least as u32;
         placing.put(id, session.size(id));
         for &[_, _, _, child] in session.links(id) {
             let left = &mut waiting[child as usize];
             *left -= 1;
             if *left == 0 {
                 turn += 1;
-                ready.push(Reverse((keys[child as usize], turn, child)));
+                ready.push(Reverse(entry(keys[child as usize], turn, child)));
             }
         }
     }
     placing
+}
+
+/// A ready object as one number, which takes one comparison: the key, when it
+/// became ready, and in the low 32 bits its id.
+fn entry(key: u64, turn: u32, id: u32) -> u128 {
+    u128::from(key) << 64 | u128::from(turn) << 32 | u128::from(id)
 }
