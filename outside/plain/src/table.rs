@@ -52,12 +52,14 @@ pub fn write(session: &Session, placing: &Placing, out: &mut [u8]) {
     }
 }
 
-/// The offset as so many bytes, the high one first.
+/// The offset as so many bytes, the high one first. A byte that the width has no
+/// room for is overwritten by the next one, so that no branch goes by the width.
 fn fill(field: &mut [u8], width: u32, offset: u32) {
     let bytes = offset.to_be_bytes();
-    match width {
-        2 => field[..2].copy_from_slice(&bytes[2..]),
-        3 => field[..3].copy_from_slice(&bytes[1..]),
-        _ => field[..4].copy_from_slice(&bytes),
-    }
+    let field = &mut field[..width as usize];
+    let last = field.len() - 1;
+    field[0] = bytes[0];
+    field[last.saturating_sub(2)] = bytes[1];
+    field[last - 1] = bytes[2];
+    field[last] = bytes[3];
 }
