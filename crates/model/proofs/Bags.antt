@@ -161,6 +161,15 @@ total-bag f (x ∷ l) m h =
     let k : 0 < count x m = omega (arith, h x, one-same x) in
     omega (arith, total-without f x m k, total-bag f l (without x m) (λ c. omega (arith, count-without c x m, h c)))
 
+total-ones : (l : List ℕ) → total (λ x. 1) l ≡ length l
+unfolding total
+total-ones [] = refl
+total-ones (x ∷ l) = omega (arith, total-ones l)
+
+-- and they are as long as each other
+pub bag-long : (l m : List ℕ) → ((c : ℕ) → count c l ≡ count c m) → length l ≡ length m
+bag-long l m h = sym (total-ones l) ∙ total-bag (λ x. 1) l m h ∙ total-ones m
+
 pub one-part : (c x : ℕ) (l : List ℕ) → 0 < count x l → one c x ≤ count c l
 one-part c x l h = cut (sameOr c x)
   where

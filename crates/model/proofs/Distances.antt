@@ -30,6 +30,10 @@ kid-link c (m ∷ ls) h = go (kid-link c ls) (sameOr c (m .child))
     go r (same e _ _) = (m, here refl, e)
     go r (other _ _ z) = let s = r (omega arith) in (s .0, there (s .1), s .2)
 
+-- there is one least sum
+pub least-one : {g : Graph} {wt : Link → ℕ} {root c d e : ℕ} → Least g wt root c d → Least g wt root c e → d ≡ e
+least-one {d = d} {e = e} u v = omega (arith, u .least e (v .path), v .least d (u .path))
+
 -- ---- the nodes that a path leads to are the nodes to place
 
 module _ (g : Graph) (wt : Link → ℕ) (nodes : List ℕ) (root : ℕ) (r : Rooted g nodes root) where

@@ -4,6 +4,7 @@ pub mod Reach
 pub mod Orders
 pub mod Before
 pub mod Distances
+pub mod SameNodes
 pub mod Labels
 pub mod Spots
 pub mod Near

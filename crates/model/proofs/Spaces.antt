@@ -11,14 +11,15 @@ use lib.Dec.{eqb}
 use borrow.Author.Tests.{ne-eqb}
 use Rattle.lists.specs.Lists.{pick}
 use Rattle.model.specs.Bag.{count}
-use Rattle.model.specs.Graph.{Graph, kids, waits, reached, Once, Closed, ParentsFirst, Rooted, Ranked, Acyclic}
+use Rattle.model.specs.Graph.{Graph, reached, Closed, ParentsFirst, Rooted, Ranked, Acyclic}
 use Rattle.model.specs.Order.{orderOf, orderBy}
 use Rattle.model.specs.Distance.{distance, distanceOrder}
 use Rattle.model.specs.Labels.{join, begun, Settled}
 use Rattle.model.specs.Space.{Near, first, Tied, Joined, alone, down, up, Together, within, joined, Numbers, narrowKids, near, spot, ownLabel, joinKids, joinAll, labelsBy, labels, spaceOf, Sorted}
-use Rattle.model.proofs.Bags.{Same, same, other, sameOr, Zero, none, some, zeroOr, one-same, count-here, total-bag}
+use Rattle.model.proofs.Bags.{Same, same, other, sameOr, Zero, none, some, zeroOr, one-same, count-here}
 use Rattle.model.proofs.Reach.{reached-rooted}
 use Rattle.model.proofs.Orders.{order-counts, order-first}
+use Rattle.model.proofs.SameNodes.{rooted-same}
 use Rattle.model.proofs.Labels.{Alike, merge-length, join-settled, join-joins, join-same, join-zero, join-known, number-at, number-rises, number-same, same-number, number-full}
 use Rattle.model.proofs.Spots.{map-at, spot-in, spot-at, count-at, at-spot}
 use Rattle.model.proofs.Near.{narrow-counted, counted-narrow, narrow-kid, counted-near, near-counted, near-placed}
@@ -290,20 +291,8 @@ module _ (g : Graph) (o : List ℕ) (root : ℕ) (s : Sorted g o root) where
 -- ---- every order is sorted
 
 pub order-sorted : (rank key : ℕ → ℕ) (g : Graph) → Ranked rank g → (nodes : List ℕ) (root : ℕ) → Rooted g nodes root → Sorted g (orderOf key g nodes root) root
-unfolding waits Once Closed
 order-sorted rank key g y nodes root r =
-    let b = order-counts rank key g y nodes root r in
-    record {
-      rooted =
-          record {
-            once = λ c. omega (arith, b c, r .once c);
-            closed = λ p c h k. omega (arith, b c, r .closed p c (omega (arith, b p)) k);
-            root-in = omega (arith, b root, r .root-in);
-            root-free = total-bag _ _ _ b ∙ r .root-free;
-            others = λ c h k. omega (arith, total-bag (λ p. count c (kids g p)) _ _ b, r .others c (omega (arith, b c)) k);
-          };
-      first = order-first rank key g y nodes root r;
-    }
+    record { rooted = rooted-same r (λ c. sym (order-counts rank key g y nodes root r c)); first = order-first rank key g y nodes root r }
 
 -- ---- the theorem: the numbers that the order by spaces goes by are those of the rules
 

@@ -6,7 +6,7 @@ use native.Mathlib.Omega.{arith}
 use Rattle.lists.specs.Lists.{total}
 use Rattle.model.specs.Bag.{count, without}
 use Rattle.model.specs.Graph.{Graph, kids, waits, Ranked, Once}
-use Rattle.model.proofs.Bags.{Zero, none, some, zeroOr, total-without, total-part, total-from}
+use Rattle.model.proofs.Bags.{Zero, none, some, zeroOr, total-without, total-part, total-bag, total-from}
 
 pub waits-without : (g : Graph) (x c : ℕ) (l : List ℕ) → 0 < count x l → waits g (without x l) c + count c (kids g x) ≡ waits g l c
 unfolding waits
@@ -15,6 +15,10 @@ waits-without g x c l h = total-without (λ p. count c (kids g p)) x l h
 pub waits-part : (g : Graph) (p c : ℕ) (l : List ℕ) → 0 < count p l → count c (kids g p) ≤ waits g l c
 unfolding waits
 waits-part g p c l h = total-part (λ p. count c (kids g p)) p l h
+
+pub waits-bag : (g : Graph) (l m : List ℕ) → ((c : ℕ) → count c l ≡ count c m) → (c : ℕ) → waits g l c ≡ waits g m c
+unfolding waits
+waits-bag g l m h c = total-bag (λ p. count c (kids g p)) l m h
 
 -- nothing that ranks no higher leads to c
 pub waits-low : (rank : ℕ → ℕ) (g : Graph) (l : List ℕ) (c : ℕ) → Ranked rank g → ((p : ℕ) → 0 < count p l → rank p ≤ rank c) → waits g l c ≡ 0

@@ -1,13 +1,12 @@
--- Bags of numbers: one more at the end, a store, and their length.
-use mathlib.Core.Path.{_≡_, refl, sym, _∙_}
+-- Bags of numbers: one more at the end, and a store.
+use mathlib.Core.Path.{_≡_}
 use Prim.Native.Nat.{ℕ, zero, suc, _+_, _<_}
 use mathlib.Core.List.{List, [], _∷_, _++_}
 use native.Mathlib.Omega.{arith}
 use lib.ListN.{length, getD, set, length-set}
 use lib.Seq.{getD-set-other}
-use Rattle.lists.specs.Lists.{total}
 use Rattle.model.specs.Bag.{one, count}
-use Rattle.model.proofs.Bags.{count-append, total-bag}
+use Rattle.model.proofs.Bags.{count-append}
 
 pub count-snoc : (x y : ℕ) (l : List ℕ) → count x (l ++ (y ∷ [])) ≡ one x y + count x l
 unfolding count
@@ -31,12 +30,3 @@ count-moved x l i j v h k d =
       count-set x l i (getD l j 0) h,
       count-set x l i v h,
     )
-
-total-ones : (l : List ℕ) → total (λ x. 1) l ≡ length l
-unfolding total
-total-ones [] = refl
-total-ones (x ∷ l) = omega (arith, total-ones l)
-
--- equal bags are as long as each other
-pub bag-long : (l m : List ℕ) → ((x : ℕ) → count x l ≡ count x m) → length l ≡ length m
-bag-long l m h = sym (total-ones l) ∙ total-bag (λ x. 1) l m h ∙ total-ones m

@@ -9,11 +9,11 @@ use lib.Seq.{getD-at, split-at}
 use Rattle.lists.proofs.Elements.{Each, map-each}
 use Rattle.model.specs.Bag.{count, without, least}
 use Rattle.model.specs.Space.{spot}
-use Rattle.model.proofs.Bags.{count-append}
+use Rattle.model.proofs.Bags.{count-append, bag-long}
 use Rattle.model.proofs.Spots.{map-at, spot-in, spot-at}
 use Rattle.order_heap.specs.Heap.{Least, Added}
 use Rattle.order_heap.specs.Stamps.{mostArrivals, stamp, arrivalOf, nodeOf, Rises, end, Stamped}
-use Rattle.order_heap.proofs.Bags.{count-snoc, bag-long}
+use Rattle.order_heap.proofs.Bags.{count-snoc}
 use Rattle.order_heap.proofs.Leading.{least-found, without-found}
 use Rattle.order_heap.proofs.Each.{bound-each, each-front, each-behind, each-both}
 use Rattle.order_heap.proofs.Rises.{rises-each, rises-more, rises-before, rises-after, rises-without}
