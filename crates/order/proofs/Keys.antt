@@ -3,7 +3,8 @@ use mathlib.Core.Path.{_≡_, ap, _∙_}
 use Prim.Native.Nat.{ℕ, _+_, _*_, _≤_, _<_}
 use mathlib.Core.List.{List}
 use native.Mathlib.Omega.{arith}
-use lib.ListN.{length, getD, set}
+use native.Mathlib.Decide.{decLe}
+use lib.ListN.{length, getD, set, List·getD-eq-default}
 use lib.Seq.{getD-set-same, getD-set-other}
 use Rattle.regions.specs.Region.{Kept, Copying}
 use Rattle.regions.proofs.Laws.{region-length, region-at, region-in}
@@ -24,16 +25,16 @@ trying-keys t =
     record {
       apart = t .surveyed .graph .apart;
       long = t .surveyed .graph .long;
-      near = t .asked .0 .near;
-      small = t .asked .1 .small;
+      near = t .asked .0;
+      small = t .asked .1;
     }
 
 pub keys-distances : {a : Areas} {n root : ℕ} {w w′ : List ℕ} → Trying a n root By.Distance w → Copying (a .distances) (a .keys) (a .nodes) (a .nodes) w w′ → Keyed a By.Distance w w′
 keys-distances {a} t f =
     record {
       kept = kept-less (f .kept) (a .keys) (a .waiting) (omega arith) (omega (arith, t .surveyed .graph .apart));
-      keys = λ i h. rw (f .done);
-      small = rw (f .done) (omega (arith, t .asked .near));
+      keys = λ i. rw (f .done);
+      small = rw (f .done) (omega (arith, t .asked));
     }
 
 -- ---- i nodes have their keys
@@ -88,22 +89,38 @@ module _ {a : Areas} {i : ℕ} {w₀ w : List ℕ} (s : Keying a w₀) (f : Weig
 
   pub weighs-all : a .nodes ≤ i → Keyed a By.Space w₀ w
   weighs-all h =
-      let inside : a .end ≤ length w₀ = s .long in
-      let long = region-length (a .keys) (a .nodes) w (omega (arith, s .apart, inside, f .kept .long)) in
       record {
         kept = f .kept;
-        keys = λ j k. f .done j (omega arith);
-        small = ceiling-each (keysIn a w) mostKey (λ j k. rw (f .done j (omega arith)) (key-small j (omega (arith, long))));
+        keys = λ j. go j (decLe (a .nodes) j);
+        small = ceiling-each (keysIn a w) mostKey (λ j k. rw (f .done j (omega (arith, keys-long))) (key-small j (omega (arith, keys-long))));
       }
     where
+      keys-long : length (keysIn a w) ≡ a .nodes
+      keys-long = region-length (a .keys) (a .nodes) w (omega (arith, s .apart, s .long, f .kept .long))
+
+      distances-long : length (distancesIn a w₀) ≡ a .nodes
+      distances-long = region-length (a .distances) (a .nodes) w₀ (omega (arith, s .apart, s .long))
+
+      spaces-long : length (spacesIn a w₀) ≡ a .nodes
+      spaces-long = region-length (a .spaces) (a .nodes) w₀ (omega (arith, s .apart, s .long))
+
       key-small : (j : ℕ) → j < a .nodes → keyBy By.Space a w₀ j < mostKey
       key-small j k =
-          let far = region-length (a .distances) (a .nodes) w₀ (omega (arith, s .apart, s .long)) in
-          let numbers = region-length (a .spaces) (a .nodes) w₀ (omega (arith, s .apart, s .long)) in
           omega (
             arith,
             s .near,
             s .small,
-            ceiling-at (distancesIn a w₀) j (omega (arith, far)),
-            ceiling-at (spacesIn a w₀) j (omega (arith, numbers)),
+            ceiling-at (distancesIn a w₀) j (omega (arith, distances-long)),
+            ceiling-at (spacesIn a w₀) j (omega (arith, spaces-long)),
+          )
+
+      -- past the last node there is 0 in all of them
+      go : (j : ℕ) → Dec (a .nodes ≤ j) → keyIn a w j ≡ keyBy By.Space a w₀ j
+      go j (no k) = f .done j (omega arith)
+      go j (yes k) =
+          omega (
+            arith,
+            List·getD-eq-default (keysIn a w) 0 {n = j} (omega (arith, keys-long)),
+            List·getD-eq-default (distancesIn a w₀) 0 {n = j} (omega (arith, distances-long)),
+            List·getD-eq-default (spacesIn a w₀) 0 {n = j} (omega (arith, spaces-long)),
           )

@@ -1,7 +1,5 @@
-pub mod Agree
 pub mod Keys
 pub mod Orders
-pub mod Spaces
 pub mod Placed
 pub mod Looked
 pub mod Placing

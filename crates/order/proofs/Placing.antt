@@ -1,22 +1,22 @@
 -- The order that comes of the keys.
-use mathlib.Core.Path.{_≡_, _∙_}
+use mathlib.Core.Path.{_≡_, ap, fun-ext, _∙_}
 use Prim.Native.Nat.{ℕ}
 use mathlib.Core.List.{List}
 use native.Mathlib.Omega.{arith}
 use Rattle.regions.proofs.Frame.{kept-then, kept-less}
-use Rattle.model.specs.Distance.{kahnOrder}
+use Rattle.model.specs.Order.{orderOf}
 use Rattle.work.specs.Views.{keyIn}
 use Rattle.work.specs.declared.Areas.{Areas}
+use Rattle.order_graph.specs.Graph.{graphOn}
 use Rattle.order_place.specs.Place.{sameKey, Starting, OrderFound}
 use Rattle.order_place.proofs.Starting.{starting-kept, found-order}
 use Rattle.order.specs.Try.{Trying, Keyed, Ordered}
 use Rattle.order.specs.declared.By.{By}
 use Rattle.order.specs.declared.By.the-variants as By
-use Rattle.order.proofs.Orders.{filled-order}
 
 module _ {a : Areas} {n root : ℕ} {by : By} {w : List ℕ} (t : Trying a n root by w) where
   pub trying-starting : Starting a n root w
-  trying-starting = record { graph = t .surveyed .graph; inside = t .surveyed .inside; rooted = t .surveyed .rooted; incoming = t .surveyed .incoming }
+  trying-starting = record { graph = t .surveyed .graph; inside = t .surveyed .inside; nodes = t .nodes; counted = t .surveyed .counted }
 
   module _ {w₁ : List ℕ} (k : Keyed a by w w₁) where
     pub keyed-starting : Starting a n root w₁
@@ -28,11 +28,12 @@ module _ {a : Areas} {n root : ℕ} {by : By} {w : List ℕ} (t : Trying a n roo
         record {
           kept = kept-then (kept-less (k .kept) (a .keys) (a .incoming) (omega arith) (omega (arith, apart))) (kept-less (o .kept) (a .keys) (a .incoming) (omega (arith, apart)) (omega arith));
           nodes = o .nodes;
-          order = found-order trying-starting (k .kept) (omega arith) o ∙ filled-order t k;
+          order =
+              λ nodes c. found-order trying-starting (k .kept) (omega arith) (omega (arith, apart)) o nodes c
+              ∙ ap (λ (key : ℕ → ℕ). orderOf key (graphOn a n w) nodes root) (fun-ext (k .keys));
         }
 
 pub turn-order : {a : Areas} {n root r : ℕ} {w w₁ : List ℕ} → Trying a n root By.Readiness w → OrderFound a n root sameKey r w w₁ → Ordered a n root By.Readiness r w w₁
-unfolding kahnOrder
 turn-order {a} t o =
     record { kept = kept-less (o .kept) (a .keys) (a .incoming) (omega (arith, t .surveyed .graph .apart)) (omega arith); nodes = o .nodes; order = o .order }
 

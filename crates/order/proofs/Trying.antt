@@ -7,29 +7,36 @@ use lib.ListN.{length}
 use Rattle.regions.proofs.Laws.{region-length}
 use Rattle.regions.proofs.Frame.{kept-then, kept-less, kept-above}
 use Rattle.model.specs.Bag.{count}
-use Rattle.model.specs.Graph.{Graph}
+use Rattle.model.specs.Graph.{Graph, Rooted}
 use Rattle.work.specs.Views.{orderIn, placesIn}
 use Rattle.work.specs.declared.Areas.{Areas}
 use Rattle.order_graph.specs.Graph.{graphIn, graphOn}
 use Rattle.order_graph.proofs.Links.{front-kept, stands-kept}
+use Rattle.order_graph.proofs.Nodes.{ceiling-in}
 use Rattle.order_survey.specs.Survey.{Surveyed}
 use Rattle.order_fit.specs.Fit.{placesFrom, look, Placing, PlacedAt}
 use Rattle.order_fit.specs.declared.Look.{Look}
-use Rattle.order.specs.Try.{orderWith, Trying, Ordered, Tried}
+use Rattle.order.specs.Try.{Trying, Ordered, Tried}
 use Rattle.order.specs.declared.By.{By}
-use Rattle.order.proofs.Orders.{with-once, with-closed, with-low}
+use Rattle.order.proofs.Orders.{ordered-sorted}
 use Rattle.order.proofs.Placed.{places-placed}
 use Rattle.order.proofs.Looked.{look-unfit}
 
 module _ {a : Areas} {n root : ℕ} {by : By} {w : List ℕ} (q : Trying a n root by w) {r : ℕ} {w₂ : List ℕ} (o : Ordered a n root by r w w₂) where
-  abbrev t : Surveyed a n root w
+  abbrev t : Surveyed a n root (q .nodes) w
   t = q .surveyed
 
   abbrev g : Graph
   g = graphOn a n w
 
+  abbrev order : List ℕ
+  order = orderIn a r w₂
+
   graph₂ : graphOn a n w₂ ≡ g
   graph₂ = ap (graphIn a n) (front-kept (t .graph) (o .kept) (omega arith))
+
+  rooted : Rooted g order root
+  rooted = ordered-sorted t o .rooted
 
   pub try-placing : Placing a n r w₂
   try-placing = record { graph = stands-kept (t .graph) (o .kept) (omega arith); nodes = o .nodes }
@@ -40,11 +47,8 @@ module _ {a : Areas} {n root : ℕ} {by : By} {w : List ℕ} (q : Trying a n roo
     graph₃ : graphOn a n w₃ ≡ g
     graph₃ = ap (graphIn a n) (front-kept (try-placing .graph) (s .kept) (omega arith)) ∙ graph₂
 
-    same-order : orderIn a r w₃ ≡ orderIn a r w₂
+    same-order : orderIn a r w₃ ≡ order
     same-order = kept-above (s .kept) (a .order) r (omega arith)
-
-    order₃ : orderIn a r w₃ ≡ orderWith by g root
-    order₃ = same-order ∙ o .order
 
     pub try-look : Placing a n r w₃
     try-look =
@@ -53,21 +57,23 @@ module _ {a : Areas} {n root : ℕ} {by : By} {w : List ℕ} (q : Trying a n roo
           nodes = record { few = o .nodes .few; ids = rw same-order (o .nodes .ids) };
         }
 
-    places₃ : placesIn a w₃ ≡ placesFrom g (orderWith by g root) 0 (placesIn a w₂)
-    places₃ = s .places ∙ rw (graph₂, o .order)
+    places₃ : placesIn a w₃ ≡ placesFrom g order 0 (placesIn a w₂)
+    places₃ = s .places ∙ rw graph₂
 
-    inside : (c : ℕ) → 0 < count c (orderWith by g root) → c < length (placesIn a w₂)
+    inside : (c : ℕ) → 0 < count c order → c < length (placesIn a w₂)
     inside c h =
-        omega (arith, with-low by g (t .rank) (t .ranked) root (t .rooted) c h, region-length (a .places) (a .nodes) w₂ (omega (arith, try-placing .graph .long, try-placing .graph .apart)))
+        let p = try-placing .graph in
+        omega (arith, ceiling-in order c h, o .nodes .ids, p .tidy .nodes, region-length (a .places) (a .nodes) w₂ (omega (arith, p .long, p .apart)))
 
     pub try-all : {x : Look} → x ≡ look (graphOn a n w₃) (placesIn a w₃) (orderIn a r w₃) → Tried a n root by r x w w₃
     try-all e =
-        let once = with-once by g (t .rank) (t .ranked) root (t .rooted) in
-        let closed = with-closed by g (t .rank) (t .ranked) root (t .rooted) in
         record {
-          kept = kept-then (o .kept) (kept-less (s .kept) (a .keys) (a .incoming) (omega arith) (omega arith));
-          nodes = try-look .nodes;
-          order = order₃;
-          places = λ i h. rw places₃ (places-placed g (orderWith by g root) (placesIn a w₂) once inside i h);
-          found = e ∙ rw (graph₃, order₃, places₃, look-unfit g (orderWith by g root) (placesIn a w₂) once inside closed);
+          ordered =
+              record {
+                kept = kept-then (o .kept) (kept-less (s .kept) (a .keys) (a .incoming) (omega arith) (omega arith));
+                nodes = try-look .nodes;
+                order = λ l c. same-order ∙ o .order l c;
+              };
+          places = λ i h. rw (same-order, places₃) (places-placed g order (placesIn a w₂) (rooted .once) inside i (rw same-order at h));
+          found = e ∙ rw (graph₃, same-order, places₃, look-unfit g order (placesIn a w₂) (rooted .once) inside (rooted .closed));
         }

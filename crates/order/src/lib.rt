@@ -1,4 +1,4 @@
-// One order of the nodes that a root reaches, tried in lent work memory: by its keys, placed, and the first link that does not fit.
+// One order of the nodes to place from a root, tried in lent work memory: by its keys, placed, and the first link that does not fit.
 //
 // It knows nothing of sessions: the graph lies in front, and the survey of the root is done.
 use order_fit::Look;
@@ -6,10 +6,9 @@ use order_fit::look_all;
 use order_fit::set_places;
 use order_place::place_by_keys;
 use order_place::place_in_turn;
-use order_spaces::number_spaces;
 use regions::copy;
 use work::Areas;
-ghost use Rattle.order.specs.Try.{DistanceOrder, SpacesFound, Keying, Keyed, Trying, Ordered, Tried};
+ghost use Rattle.order.specs.Try.{Keying, Keyed, Trying, Ordered, Tried};
 ghost use Rattle.order.specs.declared.By.the-variants as By;
 
 // What the number of a space weighs beside a distance.
@@ -25,14 +24,6 @@ pub enum By {
 pub struct Try {
     pub placed: usize,
     pub look: Look,
-}
-
-// The number of each node's space, by the shortest-distance order of r nodes that stands there. The order by spaces asks for them.
-pub fn find_spaces(work: &mut [u64], a: Areas, n: usize, root: usize, r: usize)
-    requires { ⌜ DistanceOrder a n root r (now work) ⌝ }
-    ensures { λ _. ⌜ SpacesFound a n root (now (work .entry)) (now (work .exit)) ⌝ }
-{
-    number_spaces(work, a, n, r, root);
 }
 
 // The keys of the order by spaces.

@@ -9,10 +9,11 @@ use Rattle.lists.specs.Lists.{pick}
 use Rattle.answer.specs.declared.ObjectId.{ObjectId}
 use Rattle.model.specs.Object.{Link, widest, widthOk}
 use Rattle.model.specs.Words.{linkOfWords}
-use Rattle.model.specs.Graph.{Graph}
+use Rattle.model.specs.Graph.{Graph, waits, Rooted}
 use Rattle.model.specs.Distance.{weight}
 use Rattle.work.specs.Areas.{Apart}
 use Rattle.work.specs.Packed.{packedWords, packedAt}
+use Rattle.work.specs.Views.{incomingIn}
 use Rattle.work.specs.declared.Areas.{Areas}
 use Rattle.order_graph.specs.declared.Field.{Field}
 
@@ -84,6 +85,11 @@ pub record Stands (a : Areas) (n : ℕ) (w : List ℕ) : Type 0 where
   pub apart : Apart a
   pub long : a .end ≤ length w
   pub tidy : Tidy a n (take (a .keys) w)
+
+-- the nodes to place from a root, and how many of their fields lead to each node
+pub record Counted (a : Areas) (n root : ℕ) (nodes w : List ℕ) : Type 0 where
+  pub rooted : Rooted (graphOn a n w) nodes root
+  pub incoming : (c : ℕ) → getD (incomingIn a w) c 0 ≡ waits (graphOn a n w) nodes c
 
 -- ---- what is asked to read node i, and link t of it
 

@@ -1,10 +1,10 @@
 -- By keys: the next is the least of the heap, and what becomes ready by it is pushed.
-use mathlib.Core.Path.{_≡_, refl, sym, ap, _∙_}
+use mathlib.Core.Path.{_≡_, sym, ap, _∙_}
 use Prim.Native.Nat.{ℕ, _+_, _-_, _≤_, _<_}
 use mathlib.Core.List.{List, [], _∷_, _++_}
 use native.Mathlib.Omega.{arith}
 use lib.ListN.{length, getD, set, take, drop}
-use lib.Seq.{take-take, take-append-le, take-at, drop-at}
+use lib.Seq.{take-take, take-at, drop-at}
 use Rattle.regions.specs.Region.{ceiling, Kept}
 use Rattle.regions.proofs.Laws.{region-length, region-over, region-push}
 use Rattle.regions.proofs.Bounds.{ceiling-append}
@@ -18,9 +18,9 @@ use Rattle.order_graph.proofs.Links.{front-kept, stands-kept}
 use Rattle.order_heap.proofs.Stamped.{stamped-long}
 use Rattle.order_release.specs.Release.{Arrivals, releasedAll, arrivalsOf, Live, ReleasedAll}
 use Rattle.order_place.specs.Place.{RootInHeap, Holds, InHeap, TookLeast, Pushing, PushedAll, OrderFound}
-use Rattle.order_place.proofs.Turns.{Turn, new, turn-next, turn-arrived, turn-last}
+use Rattle.order_place.proofs.Turns.{new, turn-next, turn-arrived}
 use Rattle.order_place.proofs.Starting.{keys-kept}
-use Rattle.order_place.proofs.Between.{Between, between-first}
+use Rattle.order_place.proofs.Between.{Between, between-first, between-last}
 
 -- the ready nodes are in the heap
 pub record Heaping (a : Areas) (n root m q : ℕ) (ready w₀ w : List ℕ) : Type 0 where
@@ -178,6 +178,8 @@ module _ {a : Areas} {n root m q x : ℕ} {rs w₀ w : List ℕ} (r : RootInHeap
                       kept = kept-then (s .between .kept) (kept-then (kept₃ s h t z) (kept-less (p .kept) (a .waiting) (a .incoming) (omega (arith, apart s)) (omega (arith, apart s))));
                       live = live-kept (z .live) (kept-less (p .kept) (a .heap) (a .incoming) (omega arith) (omega (arith, apart s)));
                       some = omega (arith, z .more);
+                      nodes = s .between .nodes;
+                      counted = s .between .counted;
                       left = without i (s .between .left);
                       turn = rw (order₄, counts₄, is-least) (turn-next (s .between .turn) (arrivedIn a m w));
                     };
@@ -193,7 +195,7 @@ module _ {a : Areas} {n root m q : ℕ} {w₀ w : List ℕ} (r : RootInHeap a n 
   heap-last h = go (u .ready) (u .heaping)
     where
       go : (ready : List ℕ) → Heaping a n root m q ready w₀ w → OrderFound a n root (keyIn a w₀) q w₀ w
-      go [] s = record { kept = s .between .kept; nodes = record { few = omega (arith, few s, s .between .some); ids = s .ids }; order = turn-last (s .between .turn) }
+      go [] s = record { kept = s .between .kept; nodes = record { few = omega (arith, few s, s .between .some); ids = s .ids }; order = between-last (s .between) }
       go (x ∷ l) s = absurd (omega (arith, held s))
 
   module _ (h : q < m) where

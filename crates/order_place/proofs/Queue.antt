@@ -17,8 +17,8 @@ use Rattle.order_graph.proofs.Links.{front-kept}
 use Rattle.order_heap.proofs.Leading.{without-first}
 use Rattle.order_release.specs.Release.{Arrivals, ReleasedAll}
 use Rattle.order_place.specs.Place.{sameKey, RootReady, OrderFound}
-use Rattle.order_place.proofs.Turns.{Turn, turn-next, turn-arrived, turn-last}
-use Rattle.order_place.proofs.Between.{Between, between-first}
+use Rattle.order_place.proofs.Turns.{Turn, turn-next, turn-arrived}
+use Rattle.order_place.proofs.Between.{Between, between-first, between-last}
 
 least-same : (x : ℕ) (l : List ℕ) → least sameKey x l ≡ x
 unfolding least
@@ -57,7 +57,7 @@ module _ {a : Areas} {n root m q : ℕ} {w₀ w : List ℕ} (r : RootReady a (a 
 
     pub queued-next : {m′ : ℕ} {w′ : List ℕ} → ReleasedAll a (a .order) n i m m′ w w′ → Queued a n root m′ (q + 1) w₀ w′
     queued-next {m′} {w′} z =
-        let t : Turn sameKey (graphOn a n w₀) root _ (orderIn a q w) (b .left) (i ∷ rest) = rw split at (b .turn) in
+        let t : Turn sameKey (graphOn a n w₀) (b .nodes) root _ (orderIn a q w) (b .left) (i ∷ rest) = rw split at (b .turn) in
         let front = front-kept (r .start .graph) (b .kept) (omega (arith, r .area .apart)) in
         let next : least sameKey i rest ≡ i = least-same i rest in
         let stays : without i (i ∷ rest) ≡ rest = without-first i rest in
@@ -75,6 +75,8 @@ module _ {a : Areas} {n root m q : ℕ} {w₀ w : List ℕ} (r : RootReady a (a 
                 kept = kept-then (b .kept) (kept-less (z .done .kept) (a .waiting) (a .incoming) (omega arith) (omega (arith, r .area .apart)));
                 live = z .live;
                 some = omega (arith, z .more);
+                nodes = b .nodes;
+                counted = b .counted;
                 left = without i (b .left);
                 turn = rw (ready, placed, ap (λ (s : Arrivals). s .counts) done) u;
               };
@@ -87,5 +89,5 @@ module _ {a : Areas} {n root m q : ℕ} {w₀ w : List ℕ} (r : RootReady a (a 
       record {
         kept = b .kept;
         nodes = record { few = omega (arith, b .live .room); ids = rw e (b .live .ids) };
-        order = turn-last (rw none at (b .turn));
+        order = between-last (rw none at b);
       }

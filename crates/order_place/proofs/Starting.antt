@@ -1,6 +1,6 @@
 -- The start: each node waits for its incoming fields, and the root alone is ready.
-use mathlib.Core.Path.{_≡_, sym, ap, _∙_}
-use Prim.Native.Nat.{ℕ, zero, suc, _+_, _≤_, _<_}
+use mathlib.Core.Path.{_≡_, sym, _∙_}
+use Prim.Native.Nat.{ℕ, zero, suc, _≤_, _<_}
 use mathlib.Core.List.{List, [], _∷_}
 use mathlib.Core.Bool.{Bool, true, false}
 use native.Mathlib.Omega.{arith}
@@ -13,11 +13,12 @@ use Rattle.regions.specs.Region.{ceiling, Kept, Copying}
 use Rattle.regions.proofs.Laws.{region-length, region-over, region-push}
 use Rattle.regions.proofs.Frame.{kept-then, kept-set, kept-less, kept-below, kept-above}
 use Rattle.work.specs.declared.Areas.{Areas}
-use Rattle.model.specs.Order.{orderBy}
+use Rattle.model.specs.Order.{orderOf}
 use Rattle.work.specs.Areas.{Apart}
 use Rattle.work.specs.Views.{keysIn, orderIn, incomingIn}
-use Rattle.order_graph.specs.Graph.{graphIn, graphOn}
+use Rattle.order_graph.specs.Graph.{graphOn, Counted}
 use Rattle.order_graph.proofs.Links.{front-kept, stands-kept}
+use Rattle.order_graph.proofs.Nodes.{counted-kept}
 use Rattle.order_release.specs.Release.{waiting, Arriving, Live}
 use Rattle.order_place.specs.Place.{Starting, Begun, RootReady, OrderFound}
 
@@ -43,21 +44,17 @@ waiting-fewer (x ∷ l) (suc c) h e = omega (arith, at-most (eqb x 0), waiting-f
 
 -- ---- what is written behind the graph and in front of the counts
 
-module _ {a : Areas} {n root from to : ℕ} {w w′ : List ℕ} (s : Starting a n root w) (k : Kept from to w w′) (h : a .keys ≤ from) where
-  pub starting-kept : to ≤ a .incoming → Starting a n root w′
-  starting-kept l =
-      let graph : graphOn a n w′ ≡ graphOn a n w = ap (graphIn a n) (front-kept (s .graph) k h) in
-      let incoming : incomingIn a w′ ≡ incomingIn a w = kept-above k (a .incoming) (a .nodes) l in
-      record {
-        graph = stands-kept (s .graph) k h;
-        inside = s .inside;
-        rooted = rw graph (s .rooted);
-        incoming = λ c. rw (graph, incoming) (s .incoming c);
-      }
+module _ {a : Areas} {n root from to : ℕ} {w w′ : List ℕ} (s : Starting a n root w) (k : Kept from to w w′) (h : a .keys ≤ from) (l : to ≤ a .incoming) where
+  counts-kept : {nodes : List ℕ} → Counted a n root nodes w → Counted a n root nodes w′
+  counts-kept c = counted-kept c (s .graph) k h (kept-above k (a .incoming) (a .nodes) l)
+
+  pub starting-kept : Starting a n root w′
+  starting-kept = record { graph = stands-kept (s .graph) k h; inside = s .inside; nodes = s .nodes; counted = counts-kept (s .counted) }
 
   -- an order found from there on is of the same graph
-  pub found-order : {key : ℕ → ℕ} {r : ℕ} {w″ : List ℕ} → OrderFound a n root key r w′ w″ → orderIn a r w″ ≡ orderBy key (graphOn a n w) root
-  found-order o = rw (front-kept (s .graph) k h) at (o .order)
+  pub found-order : {key : ℕ → ℕ} {r : ℕ} {w″ : List ℕ} → OrderFound a n root key r w′ w″ → (nodes : List ℕ) → Counted a n root nodes w
+      → orderIn a r w″ ≡ orderOf key (graphOn a n w) nodes root
+  found-order o nodes c = rw (front-kept (s .graph) k h) at (o .order nodes (counts-kept c))
 
 -- ---- the start
 
@@ -84,7 +81,7 @@ module _ {a : Areas} {at n root : ℕ} {w : List ℕ} (s : Starting a n root w) 
 -- an order found once that is written
 pub found-kept : {a : Areas} {n root r : ℕ} {key : ℕ → ℕ} {w w′ w″ : List ℕ} → Starting a n root w → Kept (a .waiting) (a .incoming) w w′ → OrderFound a n root key r w′ w″
     → OrderFound a n root key r w w″
-found-kept s k o = record { kept = kept-then k (o .kept); nodes = o .nodes; order = found-order s k (omega (arith, s .graph .apart)) o }
+found-kept s k o = record { kept = kept-then k (o .kept); nodes = o .nodes; order = found-order s k (omega (arith, s .graph .apart)) (omega arith) o }
 
 -- the two areas that nodes arrive in
 pub in-order : {a : Areas} → Apart a → Arriving a (a .order)
@@ -98,7 +95,7 @@ unfolding ceiling
 root-live {a} {at} {n} {root} {w} r =
     let s = r .start in
     let long = region-length (a .incoming) (a .nodes) w (omega (arith, s .graph, s .graph .apart)) in
-    let free : getD (incomingIn a w) root 0 ≡ 0 = s .incoming root ∙ s .rooted .root-free in
+    let free : getD (incomingIn a w) root 0 ≡ 0 = s .counted .incoming root ∙ s .counted .rooted .root-free in
     record {
       graph = s .graph;
       area = r .area;

@@ -1,5 +1,5 @@
 -- One turn of placing, by counters: the links of the next node taken off make ready what the model's order makes ready.
-use mathlib.Core.Path.{_≡_, refl, sym, ap, _∙_}
+use mathlib.Core.Path.{_≡_, refl, sym, _∙_}
 use Prim.Native.Nat.{ℕ, suc, _+_, _-_, _≤_, _<_}
 use mathlib.Core.List.{List, [], _∷_, _++_, append-assoc, append-nil}
 use native.Mathlib.Omega.{arith}
@@ -11,8 +11,8 @@ use borrow.Author.Tests.{eq-eqb, ne-eqb}
 use Rattle.lists.specs.Lists.{pick}
 use Rattle.model.specs.Bag.{count, without, zerosOf, lastOnce, least}
 use Rattle.model.specs.Object.{Link}
-use Rattle.model.specs.Graph.{Graph, kids, kidsOf, waits, reached, Rooted}
-use Rattle.model.specs.Order.{orderFrom, orderBy}
+use Rattle.model.specs.Graph.{Graph, kids, kidsOf, waits, Rooted}
+use Rattle.model.specs.Order.{orderFrom, orderOf}
 use Rattle.model.proofs.Bags.{Same, same, other, sameOr, Zero, none, some, zeroOr, one-same, length-without, least-in}
 use Rattle.model.proofs.Waits.{waits-without}
 use Rattle.model.proofs.Orders.{Inv, next-free, next-inv, rooted-inv}
@@ -69,25 +69,24 @@ releases w (l ∷ ls) s h =
 -- ---- turns
 
 -- between two turns: `placed` are placed, of those left `ready` are ready, the longest ready first, and what comes is the order by the keys
-pub record Turn (key : ℕ → ℕ) (g : Graph) (root : ℕ) (counts placed left ready : List ℕ) : Type 0 where
+pub record Turn (key : ℕ → ℕ) (g : Graph) (nodes : List ℕ) (root : ℕ) (counts placed left ready : List ℕ) : Type 0 where
   pub inv : Inv g left ready
   pub waits : (c : ℕ) → getD counts c 0 ≡ waits g left c
-  pub rest : placed ++ orderFrom key g (length left) left ready ≡ orderBy key g root
+  pub rest : placed ++ orderFrom key g (length left) left ready ≡ orderOf key g nodes root
 
-pub turn-first : (key : ℕ → ℕ) (g : Graph) (root : ℕ) (cs : List ℕ) → Rooted g (reached g root) root → ((c : ℕ) → getD cs c 0 ≡ waits g (reached g root) c)
-    → Turn key g root cs [] (reached g root) (root ∷ [])
-unfolding orderBy
-turn-first key g root cs r h = record { inv = rooted-inv g (reached g root) root r; waits = h; rest = refl }
+pub turn-first : (key : ℕ → ℕ) {g : Graph} {nodes : List ℕ} {root : ℕ} (cs : List ℕ) → Rooted g nodes root → ((c : ℕ) → getD cs c 0 ≡ waits g nodes c)
+    → Turn key g nodes root cs [] nodes (root ∷ [])
+turn-first key {g} {nodes} {root} cs r h = record { inv = rooted-inv g nodes root r; waits = h; rest = refl }
 
-pub turn-last : {key : ℕ → ℕ} {g : Graph} {root : ℕ} {cs o left : List ℕ} → Turn key g root cs o left [] → o ≡ orderBy key g root
+pub turn-last : {key : ℕ → ℕ} {g : Graph} {nodes : List ℕ} {root : ℕ} {cs o left : List ℕ} → Turn key g nodes root cs o left [] → o ≡ orderOf key g nodes root
 unfolding orderFrom
-turn-last {key} {g} {root} {o = o} {left = left} t = go left (t .rest)
+turn-last {key} {g} {nodes} {root} {o = o} {left = left} t = go left (t .rest)
   where
-    go : (l : List ℕ) → o ++ orderFrom key g (length l) l [] ≡ orderBy key g root → o ≡ orderBy key g root
+    go : (l : List ℕ) → o ++ orderFrom key g (length l) l [] ≡ orderOf key g nodes root → o ≡ orderOf key g nodes root
     go [] e = rw (append-nil o) at e
     go (x ∷ l) e = rw (append-nil o) at e
 
-module _ {key : ℕ → ℕ} {g : Graph} {root : ℕ} {cs o left rs : List ℕ} {r : ℕ} (t : Turn key g root cs o left (r ∷ rs)) where
+module _ {key : ℕ → ℕ} {g : Graph} {root : ℕ} {nodes cs o left rs : List ℕ} {r : ℕ} (t : Turn key g nodes root cs o left (r ∷ rs)) where
   abbrev x : ℕ
   x = least key r rs
 
@@ -106,7 +105,7 @@ module _ {key : ℕ → ℕ} {g : Graph} {root : ℕ} {cs o left rs : List ℕ} 
   turn-arrived arrived = taken-off arrived .arrived
 
   pub turn-next : (arrived : List ℕ)
-      → Turn key g root (releasedAll (g .links x) (record { counts = cs; arrived = arrived }) .counts) (o ++ (x ∷ [])) (without x left) (without x (r ∷ rs) ++ new)
+      → Turn key g nodes root (releasedAll (g .links x) (record { counts = cs; arrived = arrived }) .counts) (o ++ (x ∷ [])) (without x left) (without x (r ∷ rs) ++ new)
   unfolding orderFrom
   turn-next arrived =
       let e : length left ≡ suc (length (without x left)) = omega (arith, length-without x left (free .1)) in

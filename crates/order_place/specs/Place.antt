@@ -2,26 +2,25 @@
 use Prim.Native.Nat.{ℕ, _+_, _-_, _≤_, _<_}
 use mathlib.Core.Path.{_≡_}
 use mathlib.Core.List.{List, [], _∷_, _++_}
-use lib.ListN.{getD, drop}
+use lib.ListN.{drop}
 use Rattle.regions.specs.Region.{region, ceiling, Kept}
 use Rattle.model.specs.Bag.{without, least}
-use Rattle.model.specs.Graph.{waits, reached, Rooted}
-use Rattle.model.specs.Order.{orderBy}
+use Rattle.model.specs.Order.{orderOf}
 use Rattle.work.specs.declared.Areas.{Areas}
 use Rattle.work.specs.Views.{keysIn, keyIn, waitingIn, arrivedIn, heapIn, orderIn, incomingIn}
-use Rattle.order_graph.specs.Graph.{Stands, graphOn}
+use Rattle.order_graph.specs.Graph.{Stands, graphOn, Counted}
 use Rattle.order_heap.specs.Heap.{Heaped}
 use Rattle.order_heap.specs.Stamps.{Stamped}
 use Rattle.order_release.specs.Release.{Arriving}
 
 -- ---- what is asked, and what comes of it
 
--- a root, and how many fields of what it reaches lead to each node
+-- a root, and nodes to place from it
 pub record Starting (a : Areas) (n root : ℕ) (w : List ℕ) : Type 0 where
   pub graph : Stands a n w
   pub inside : root < n
-  pub rooted : Rooted (graphOn a n w) (reached (graphOn a n w) root) root
-  pub incoming : (c : ℕ) → getD (incomingIn a w) c 0 ≡ waits (graphOn a n w) (reached (graphOn a n w) root) c
+  pub nodes : List ℕ
+  pub counted : Counted a n root nodes w
 
 -- a key is less than this, so that the number of an arrival has room below it in a word
 abbrev pub mostKey : ℕ
@@ -35,11 +34,11 @@ pub record OrderIds (a : Areas) (n r : ℕ) (w : List ℕ) : Type 0 where
   pub few : r ≤ a .nodes
   pub ids : ceiling (orderIn a r w) ≤ n
 
--- the order by the keys
+-- the order by the keys. The counts say which nodes are to be placed, so that it is the order of any list of them
 pub record OrderFound (a : Areas) (n root : ℕ) (key : ℕ → ℕ) (r : ℕ) (w w′ : List ℕ) : Type 0 where
   pub kept : Kept (a .waiting) (a .incoming) w w′
   pub nodes : OrderIds a n r w′
-  pub order : orderIn a r w′ ≡ orderBy key (graphOn a n w) root
+  pub order : (nodes : List ℕ) → Counted a n root nodes w → orderIn a r w′ ≡ orderOf key (graphOn a n w) nodes root
 
 -- one key for all
 abbrev pub sameKey : ℕ → ℕ

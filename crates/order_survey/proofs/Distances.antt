@@ -1,5 +1,5 @@
--- What the distances in the work memory end as is the model's: both are least sums, and no path is as long as `farAway`.
-use mathlib.Core.Path.{_≡_, _∙_}
+-- What the distances in the work memory end as is the least sums: no path is as long as `farAway`.
+use mathlib.Core.Path.{_≡_, refl, _∙_}
 use Prim.Native.Nat.{ℕ, suc, _+_, _-_, _*_, _≤_, _<_}
 use mathlib.Core.List.{List, []}
 use native.Mathlib.Omega.{arith}
@@ -9,11 +9,10 @@ use borrow.Author.Tests.{le-ltb, lt-ltb}
 use Rattle.big_endian.proofs.Laws.{capacity-rises}
 use Rattle.model.specs.Bag.{count}
 use Rattle.model.specs.Object.{Link, widest}
-use Rattle.model.specs.Graph.{Graph, reached, Ranked, Acyclic, ParentsFirst}
-use Rattle.model.specs.Distance.{In, here, there, Path, start, along, Least, weight, distancesBy, distance}
+use Rattle.model.specs.Graph.{Graph, Ranked, ParentsFirst, Rooted}
+use Rattle.model.specs.Distance.{In, here, there, Path, start, along, Least, weight, distancesBy}
 use Rattle.model.proofs.Slots.{width-most}
-use Rattle.model.proofs.Reach.{reached-rooted, reached-low}
-use Rattle.model.proofs.Distances.{in-kids, all-length, distance-least, distance-is-least}
+use Rattle.model.proofs.Distances.{in-kids, all-length, distance-least}
 use Rattle.work.specs.Packed.{packedWords, packedAt}
 use Rattle.work.specs.declared.Areas.{Areas}
 use Rattle.order_graph.specs.Graph.{graphIn, linksFrom, linksAt, linkCount, linkOf, mostNodes, mostWeight, Tidy}
@@ -57,24 +56,20 @@ tidy-light {a} {n} {f} s i l k = node-links a n f (λ m. weight (graphIn a n f) 
 
 -- ---- no path is as long as `farAway`
 
--- every step leads to a lower id
-path-short : (g : Graph) → Acyclic g → Light g → (root : ℕ) {c d : ℕ} → Path g (weight g) root c d → d + c * mostWeight ≤ root * mostWeight
+-- every step leads to a lower rank
+path-short : (g : Graph) (rank : ℕ → ℕ) → Ranked rank g → Light g → (root : ℕ) {c d : ℕ} → Path g (weight g) root c d → d + rank c * mostWeight ≤ rank root * mostWeight
 unfolding Ranked
-path-short g y light root (start e z) = rw (e, z) (omega arith)
-path-short g y light root (along {p = p} l w i e z) =
+path-short g rank y light root (start e z) = rw (e, z) (omega arith)
+path-short g rank y light root (along {p = p} l w i e z) =
     let s = y p (l .child) (in-kids l (g .links p) i) in
-    rw (e, z) (omega (arith, light p l i, path-short g y light root w))
+    rw (e, z) (omega (arith, light p l i, path-short g rank y light root w))
 
 paths-near : mostNodes * mostWeight ≤ farAway
 paths-near = omega arith
 
--- there is one least sum
-least-one : {g : Graph} {wt : Link → ℕ} {root c d e : ℕ} → Least g wt root c d → Least g wt root c e → d ≡ e
-least-one {d = d} {e = e} u v = omega (arith, u .least e (v .path), v .least d (u .path))
-
--- along a line o of what the root reaches
-module _ (g : Graph) (y : Acyclic g) (light : Light g) (nodes root : ℕ) (h : root < nodes) (few : nodes ≤ mostNodes)
-    (o : List ℕ) (bag : (c : ℕ) → count c o ≡ count c (reached g root)) (first : ParentsFirst g o) where
+-- along a line o of the nodes to place
+module _ (g : Graph) (rank : ℕ → ℕ) (y : Ranked rank g) (light : Light g) (root : ℕ) (low : rank root < mostNodes)
+    (o : List ℕ) (r : Rooted g o root) (first : ParentsFirst g o) (nodes : ℕ) (inside : (c : ℕ) → 0 < count c o → c < nodes) where
   abbrev sums : List ℕ
   sums = distancesBy farAway (weight g) g o nodes root
 
@@ -82,15 +77,7 @@ module _ (g : Graph) (y : Acyclic g) (light : Light g) (nodes root : ℕ) (h : r
   unfolding distancesBy
   sums-long = all-length farAway (weight g) g o _ ∙ length-set (replicate nodes farAway) root 0 ∙ length-replicate nodes farAway
 
-  inside : (c : ℕ) → 0 < count c (reached g root) → c < nodes
-  inside c k = omega (arith, reached-low g root c k)
-
-  sums-least : (c : ℕ) → 0 < count c (reached g root) → Least g (weight g) root c (getD sums c farAway)
+  pub sums-least : (c : ℕ) → 0 < count c o → Least g (weight g) root c (getD sums c 0)
   sums-least c k =
-      distance-least farAway (weight g) g (reached g root) root (reached-rooted g root y) o bag first nodes inside (λ i. i) y
-      (λ c d v. omega (arith, path-short g y light root v, paths-near)) c k
-
-  pub sums-distance : (c : ℕ) → 0 < count c (reached g root) → getD sums c 0 ≡ distance g root c
-  sums-distance c k =
       rw (getD-inside sums c 0 farAway (omega (arith, sums-long, inside c k)))
-      (least-one (sums-least c k) (distance-is-least g root y c k))
+      (distance-least farAway (weight g) g o root r o (λ c. refl) first nodes inside rank y (λ c d v. omega (arith, path-short g rank y light root v, paths-near)) c k)

@@ -8,19 +8,20 @@ use lib.Seq.{getD-set-same, getD-set-other}
 use Rattle.lists.specs.Lists.{total}
 use Rattle.regions.specs.Region.{Kept}
 use Rattle.regions.proofs.Laws.{region-length, region-in, region-over}
-use Rattle.regions.proofs.Frame.{kept-then, kept-set, kept-less, kept-below, kept-above}
-use Rattle.model.specs.Bag.{one}
+use Rattle.regions.proofs.Frame.{kept-then, kept-set, kept-below, kept-above}
+use Rattle.model.specs.Bag.{one, count}
 use Rattle.model.specs.Graph.{Graph, waits, reached, Acyclic}
 use Rattle.model.specs.Table.{tableLength}
 use Rattle.model.proofs.Bags.{Same, same, other, sameOr}
 use Rattle.model.proofs.Reach.{reached-rooted}
-use Rattle.work.specs.Views.{lineIn, incomingIn, distancesIn}
+use Rattle.work.specs.Views.{lineIn, incomingIn}
 use Rattle.work.specs.declared.Areas.{Areas}
 use Rattle.order_graph.specs.Graph.{graphOn, Stands, AtNode}
 use Rattle.order_graph.proofs.Links.{front-kept, stands-kept}
+use Rattle.order_graph.proofs.Nodes.{ceiling-in, counted-kept}
 use Rattle.order_survey.specs.Survey.{Lined, unlined, LineFound, Along, DistancesSet, Surveyed, Measured, Lines, Distanced, DistancesFound}
 use Rattle.order_survey.proofs.Lines.{line-reached, incoming-waits}
-use Rattle.order_survey.proofs.Distances.{tidy-light, sums-distance}
+use Rattle.order_survey.proofs.Distances.{tidy-light, sums-least}
 
 module _ {a : Areas} {n root r : ℕ} {w w₁ : List ℕ} (s : AtNode a n root w) (f : LineFound a n root r (unlined (a .nodes) root) w w₁) where
   -- the root counts no more as led to
@@ -73,25 +74,11 @@ module _ {a : Areas} {n root r : ℕ} {w w₁ : List ℕ} (s : AtNode a n root w
             inside = s .inside;
             rank = λ i. i;
             ranked = rw front y;
-            rooted = rw front (reached-rooted graph root y);
-            incoming = λ c. rw front (incoming c);
+            low = omega arith;
+            counted = record { rooted = rw front (reached-rooted graph root y); incoming = λ c. rw front (incoming c) };
           };
           size = e ∙ rw (front, line);
         }
-
--- ---- it holds as long as the graph and the incoming fields stand
-
-surveyed-same : {a : Areas} {n root from to : ℕ} {w w′ : List ℕ} → Surveyed a n root w → Kept from to w w′ → a .keys ≤ from → incomingIn a w′ ≡ incomingIn a w → Surveyed a n root w′
-surveyed-same s k h same-incoming =
-    let front = front-kept (s .graph) k h in
-    record {
-      graph = stands-kept (s .graph) k h;
-      inside = s .inside;
-      rank = s .rank;
-      ranked = rw front (s .ranked);
-      rooted = rw front (s .rooted);
-      incoming = λ c. rw (front, same-incoming) (s .incoming c);
-    }
 
 -- ---- the distances along a line
 
@@ -99,32 +86,44 @@ module _ {a : Areas} {n root r : ℕ} {w : List ℕ} (s : Lines a n root r w) wh
   pub lines-along : Along a n r w
   lines-along = record { graph = s .surveyed .graph; few = s .few; ids = s .ids }
 
-  pub lines-found : {w′ : List ℕ} → DistancesSet a n root r w w′ → DistancesFound a n root w w′
+  pub lines-found : {w′ : List ℕ} → DistancesSet a n root r w w′ → DistancesFound a n root r w w′
   lines-found d =
-      let g = s .surveyed .graph in
-      let front = front-kept g (d .kept) (omega arith) in
+      let t = s .surveyed in
+      let inside : (c : ℕ) → 0 < count c (lineIn a r w) → c < a .nodes = λ c h. omega (arith, ceiling-in (lineIn a r w) c h) in
       record {
         kept = d .kept;
         distanced =
             record {
-              distances = λ c k. rw (front, d .distances)
-                  (sums-distance (graphOn a n w) (s .acyclic) (tidy-light (g .tidy)) (a .nodes) root (omega (arith, s .surveyed .inside)) (g .tidy .limit) (lineIn a r w) (s .same) (s .first) c
-                  (rw front at k));
+              sums = λ c h. rw (front-kept (t .graph) (d .kept) (omega arith), d .distances)
+                  (sums-least (graphOn a n w) (t .rank) (t .ranked) (tidy-light (t .graph .tidy)) root (t .low) (lineIn a r w) (t .counted .rooted) (s .first) (a .nodes) inside c h);
               near = d .near;
             };
       }
 
--- it holds while orders are tried, which change neither the graph nor anything from the incoming fields on
-pub surveyed-kept : {a : Areas} {n root : ℕ} {w w′ : List ℕ} → Surveyed a n root w → Kept (a .keys) (a .incoming) w w′ → Surveyed a n root w′
+-- ---- what was found holds as long as the graph and the words found stand
+
+surveyed-same : {a : Areas} {n root from to : ℕ} {nodes w w′ : List ℕ} → Surveyed a n root nodes w → Kept from to w w′ → a .keys ≤ from → incomingIn a w′ ≡ incomingIn a w
+    → Surveyed a n root nodes w′
+surveyed-same s k h e =
+    record {
+      graph = stands-kept (s .graph) k h;
+      inside = s .inside;
+      rank = s .rank;
+      ranked = rw (front-kept (s .graph) k h) (s .ranked);
+      low = s .low;
+      counted = counted-kept (s .counted) (s .graph) k h e;
+    }
+
+-- orders that are tried change neither the graph nor anything from the incoming fields on
+pub surveyed-kept : {a : Areas} {n root : ℕ} {nodes w w′ : List ℕ} → Surveyed a n root nodes w → Kept (a .keys) (a .incoming) w w′ → Surveyed a n root nodes w′
 surveyed-kept {a} s k = surveyed-same s k (omega arith) (kept-above k (a .incoming) (a .nodes) (omega arith))
 
--- and so do the distances
-pub distanced-kept : {a : Areas} {n root : ℕ} {w w′ : List ℕ} → Stands a n w → Distanced a n root w → Kept (a .keys) (a .incoming) w w′ → Distanced a n root w′
+pub distanced-kept : {a : Areas} {n root : ℕ} {nodes w w′ : List ℕ} → Stands a n w → Distanced a n root nodes w → Kept (a .keys) (a .incoming) w w′ → Distanced a n root nodes w′
 distanced-kept {a} g s k =
     let front = front-kept g k (omega arith) in
     let same = kept-above k (a .distances) (a .nodes) (omega arith) in
-    record { distances = λ c h. rw (front, same) (s .distances c (rw front at h)); near = rw same (s .near) }
+    record { sums = λ c h. rw (front, same) (s .sums c h); near = rw same (s .near) }
 
--- it holds while distances are found, which lie behind it
-pub surveyed-found : {a : Areas} {n root : ℕ} {w w′ : List ℕ} → Surveyed a n root w → DistancesFound a n root w w′ → Surveyed a n root w′
+-- distances lie behind the survey
+pub surveyed-found : {a : Areas} {n root r : ℕ} {nodes w w′ : List ℕ} → Surveyed a n root nodes w → DistancesFound a n root r w w′ → Surveyed a n root nodes w′
 surveyed-found {a} s d = surveyed-same s (d .kept) (omega (arith, s .graph .apart)) (kept-below (d .kept) (a .incoming) (a .nodes) (omega (arith, s .graph .apart)))

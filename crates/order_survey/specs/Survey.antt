@@ -9,12 +9,12 @@ use Rattle.regions.specs.Region.{ceiling, Kept}
 use Rattle.lists.specs.Lists.{pick}
 use Rattle.model.specs.Object.{Link}
 use Rattle.model.specs.Bag.{count}
-use Rattle.model.specs.Graph.{Graph, waits, reached, Ranked, Acyclic, Rooted, ParentsFirst}
-use Rattle.model.specs.Distance.{weight, relax, relaxAll, distancesBy, distance}
+use Rattle.model.specs.Graph.{Graph, reached, Ranked, ParentsFirst}
+use Rattle.model.specs.Distance.{weight, Least, relax, relaxAll, distancesBy}
 use Rattle.model.specs.Table.{tableLength}
 use Rattle.work.specs.declared.Areas.{Areas}
 use Rattle.work.specs.Views.{lineIn, incomingIn, distancesIn}
-use Rattle.order_graph.specs.Graph.{graphOn, mostNodes, mostNodeLinks, Stands, AtNode}
+use Rattle.order_graph.specs.Graph.{graphOn, mostNodes, mostNodeLinks, Stands, AtNode, Counted}
 
 -- ---- the line, and the incoming fields
 
@@ -96,36 +96,35 @@ pub record DistancesSet (a : Areas) (n root r : ℕ) (w w′ : List ℕ) : Type 
   pub distances : distancesIn a w′ ≡ distancesBy farAway (weight (graphOn a n w)) (graphOn a n w) (lineIn a r w) (a .nodes) root
   pub near : ceiling (distancesIn a w′) ≤ farAway + 1
 
--- ---- the whole, by the model's definitions. What the orders lean on is that the root's nodes are all there, and that children rank below their parents
+-- ---- the whole, by the model's definitions. What the orders lean on is that the nodes to place from the root are all there, and that children
+-- rank below their parents
 
-pub record Surveyed (a : Areas) (n root : ℕ) (w : List ℕ) : Type 0 where
+pub record Surveyed (a : Areas) (n root : ℕ) (nodes w : List ℕ) : Type 0 where
   pub graph : Stands a n w
   pub inside : root < n
   pub rank : ℕ → ℕ
   pub ranked : Ranked rank (graphOn a n w)
-  pub rooted : Rooted (graphOn a n w) (reached (graphOn a n w) root) root
-  pub incoming : (c : ℕ) → getD (incomingIn a w) c 0 ≡ waits (graphOn a n w) (reached (graphOn a n w) root) c
+  pub low : rank root < mostNodes
+  pub counted : Counted a n root nodes w
 
 pub record Measured (a : Areas) (n root length : ℕ) (w w′ : List ℕ) : Type 0 where
   pub kept : Kept (a .line) (a .distances) w w′
-  pub surveyed : Surveyed a n root w′
+  pub surveyed : Surveyed a n root (reached (graphOn a n w) root) w′
   pub size : length ≡ tableLength (graphOn a n w) root
 
--- ---- the distances, along any line of what the root reaches that has parents before their children
+-- ---- the distances, along any line of nodes from the root that has parents before their children
 
 pub record Lines (a : Areas) (n root r : ℕ) (w : List ℕ) : Type 0 where
-  pub surveyed : Surveyed a n root w
-  pub acyclic : Acyclic (graphOn a n w)
+  pub surveyed : Surveyed a n root (lineIn a r w) w
   pub few : r ≤ a .nodes
   pub ids : ceiling (lineIn a r w) ≤ n
-  pub same : (c : ℕ) → count c (lineIn a r w) ≡ count c (reached (graphOn a n w) root)
   pub first : ParentsFirst (graphOn a n w) (lineIn a r w)
 
--- each reached node's is known, and no word of theirs is past `farAway`
-pub record Distanced (a : Areas) (n root : ℕ) (w : List ℕ) : Type 0 where
-  pub distances : (c : ℕ) → 0 < count c (reached (graphOn a n w) root) → getD (distancesIn a w) c 0 ≡ distance (graphOn a n w) root c
+-- the least sum to each of the nodes, and no word of theirs is past `farAway`
+pub record Distanced (a : Areas) (n root : ℕ) (nodes w : List ℕ) : Type 0 where
+  pub sums : (c : ℕ) → 0 < count c nodes → Least (graphOn a n w) (weight (graphOn a n w)) root c (getD (distancesIn a w) c 0)
   pub near : ceiling (distancesIn a w) ≤ farAway + 1
 
-pub record DistancesFound (a : Areas) (n root : ℕ) (w w′ : List ℕ) : Type 0 where
+pub record DistancesFound (a : Areas) (n root r : ℕ) (w w′ : List ℕ) : Type 0 where
   pub kept : Kept (a .distances) (a .end) w w′
-  pub distanced : Distanced a n root w′
+  pub distanced : Distanced a n root (lineIn a r w) w′

@@ -143,7 +143,7 @@ pub fn survey(work: &mut [u64], a: Areas, n: usize, root: usize) -> u64
 // The distances from the root, along the r nodes of a line.
 pub fn find_distances(work: &mut [u64], a: Areas, n: usize, root: usize, r: usize)
     requires { ⌜ Lines a n root r (now work) ⌝ }
-    ensures { λ _. ⌜ DistancesFound a n root (now (work .entry)) (now (work .exit)) ⌝ }
+    ensures { λ _. ⌜ DistancesFound a n root r (now (work .entry)) (now (work .exit)) ⌝ }
 {
     set_distances(work, a, n, root, r);
 }

@@ -1,5 +1,5 @@
 -- What the test of a graph's words tells, and that the graph stands where they are loaded.
-use mathlib.Core.Path.{_≡_, refl, _∙_}
+use mathlib.Core.Path.{_≡_, refl}
 use Prim.Native.Nat.{ℕ, zero, suc, _+_, _-_, _*_, _^_, _≤_, _<_}
 use mathlib.Core.List.{List, _++_}
 use mathlib.Core.Bool.{Bool, true, false, _&&_}
@@ -8,25 +8,26 @@ use lib.ListN.{length, getD, take, length-append}
 use lib.Dec.{eqb, ltb, leb}
 use borrow.Author.Tests.{ltb-true, leb-true, eqb-true, eqb-false}
 use Rattle.lists.proofs.Same.{and-left, and-right}
-use Rattle.regions.proofs.Frame.{kept-then, kept-less}
+use Rattle.regions.proofs.Frame.{kept-then, kept-less, kept-above}
 use Rattle.model.specs.Object.{widthOk}
 use Rattle.model.specs.Graph.{Ranked, Acyclic}
 use Rattle.model.proofs.Distances.{kid-link}
 use Rattle.work.specs.Areas.{areasOf, workNeed, graphWords, areas-apart}
 use Rattle.work.specs.Packed.{packedWords}
 use Rattle.work.specs.declared.Areas.{Areas}
-use Rattle.order_graph.specs.Graph.{graphIn, linkOf, linksAt, linkCount, mostNodes, mostNodeLinks, mostSize, Tidy}
+use Rattle.order_graph.specs.Graph.{graphIn, linkOf, linksAt, linkCount, mostNodes, mostNodeLinks, mostSize, Tidy, Stands}
 use Rattle.order_graph.proofs.Links.{front-kept, stands-kept}
-use Rattle.order_survey.specs.Survey.{Surveyed, Measured, Lines, Distanced, DistancesFound}
+use Rattle.order_survey.specs.Survey.{Measured, Lines, DistancesFound}
 use Rattle.order_survey.proofs.Distances.{node-links}
-use Rattle.order_survey.proofs.Surveys.{surveyed-kept, surveyed-found, distanced-kept}
+use Rattle.order_survey.proofs.Surveys.{surveyed-kept, surveyed-found}
+use Rattle.order_spaces.specs.Spaces.{Spacing, Spaced}
 use Rattle.order_fit.specs.Fit.{Placing}
 use Rattle.order_fit.specs.declared.Look.{Look}
-use Rattle.order.specs.Try.{Trying, Tried, DistanceOrder, SpacesFound}
-use Rattle.order.proofs.Orders.{order-lines}
+use Rattle.order.specs.Try.{Trying, Ordered, Tried}
 use Rattle.order.specs.declared.By.{By}
 use Rattle.order.specs.declared.By.the-variants as By
-use Rattle.orders.specs.Given.{space, allBelow, tidyLink, tidyNode, given, Loaded, Stood, Shown, Prepared}
+use Rattle.order.proofs.Orders.{ordered-sorted, ordered-lines}
+use Rattle.orders.specs.Given.{space, allBelow, tidyLink, tidyNode, given, Loaded, Stood}
 
 -- what is tested of all numbers below n holds of each
 below-at : (n : ℕ) (test : ℕ → Bool) → allBelow n test ≡ true → (i : ℕ) → i < n → test i ≡ true
@@ -121,42 +122,42 @@ loaded-stood {p} {k} {a} {x} {y} {w} {w₁} {w₂} s e h l m =
       falls = rw front (s .falls);
     })
 
--- an order tried leaves its nodes and places behind the graph
-module _ {a : Areas} {by : By} {r : ℕ} {x : Look} {w w′ : List ℕ} (s : Trying a (a .nodes) (a .nodes - 1) by w) (t : Tried a (a .nodes) (a .nodes - 1) by r x w w′) where
-  pub tried-placing : Placing a (a .nodes) r w′
-  tried-placing = record { graph = stands-kept (s .surveyed .graph) (t .kept) (omega arith); nodes = t .nodes }
+-- ---- one order after the other
 
-  pub tried-shown : Shown a by r w w′
-  tried-shown =
+-- an order tried leaves its nodes and places behind the graph
+pub tried-placing : {a : Areas} {n root r : ℕ} {by : By} {x : Look} {w w′ : List ℕ} → Trying a n root by w → Tried a n root by r x w w′ → Placing a n r w′
+tried-placing s t = record { graph = stands-kept (s .surveyed .graph) (t .ordered .kept) (omega arith); nodes = t .ordered .nodes }
+
+pub measured-trying : {a : Areas} {n root l : ℕ} {w w′ : List ℕ} → Measured a n root l w w′ → Trying a n root By.Readiness w′
+measured-trying m = record { nodes = _; surveyed = m .surveyed; asked = tt }
+
+-- the kahn order is a line to find the distances along
+module _ {a : Areas} {n root r : ℕ} {w w′ : List ℕ} (s : Trying a n root By.Readiness w) (o : Ordered a n root By.Readiness r w w′) where
+  pub kahn-lines : Lines a n root r w′
+  kahn-lines = ordered-lines (s .surveyed) o
+
+  pub near-trying : {w″ : List ℕ} → DistancesFound a n root r w′ w″ → Trying a n root By.Distance w″
+  near-trying d = record { nodes = s .nodes; surveyed = surveyed-found (surveyed-kept (s .surveyed) (o .kept)) d; asked = d .distanced .near }
+
+-- the distance order is one to find the spaces over
+module _ {a : Areas} {n root r : ℕ} {w w′ : List ℕ} (s : Trying a n root By.Distance w) (o : Ordered a n root By.Distance r w w′) where
+  abbrev g : Stands a n w
+  g = s .surveyed .graph
+
+  pub distance-spacing : Spacing a n r root w′
+  distance-spacing =
       record {
-        kept = t .kept;
-        nodes = t .nodes;
-        order = t .order ∙ rw (front-kept (s .surveyed .graph) (t .kept) (omega arith));
+        graph = stands-kept g (o .kept) (omega arith);
+        few = o .nodes .few;
+        ids = o .nodes .ids;
+        sorted = rw (front-kept g (o .kept) (omega arith)) (ordered-sorted (s .surveyed) o);
       }
 
--- the survey leaves the graph
-pub surveyed-prepared : {a : Areas} {l : ℕ} {w w′ : List ℕ} → Stood a w → Measured a (a .nodes) (a .nodes - 1) l w w′ → Prepared a w′
-surveyed-prepared s m = record { surveyed = m .surveyed; falls = rw (front-kept (s .graph) (m .kept) (omega (arith, s .graph .apart))) (s .falls) }
-
--- ---- the kahn order is a line to find the distances along
-
-module _ {a : Areas} {r : ℕ} {w w′ : List ℕ} (s : Prepared a w) (o : Shown a By.Readiness r w w′) where
-  shown-surveyed : Surveyed a (a .nodes) (a .nodes - 1) w′
-  shown-surveyed = surveyed-kept (s .surveyed) (o .kept)
-
-  pub kahn-lines : Lines a (a .nodes) (a .nodes - 1) r w′
-  kahn-lines = order-lines By.Readiness shown-surveyed (rw (front-kept (s .surveyed .graph) (o .kept) (omega arith)) (s .falls)) (o .nodes) (o .order)
-
-  pub found-distances : {w″ : List ℕ} → DistancesFound a (a .nodes) (a .nodes - 1) w′ w″ → Surveyed a (a .nodes) (a .nodes - 1) w″ × Distanced a (a .nodes) (a .nodes - 1) w″
-  found-distances d = (surveyed-found shown-surveyed d, d .distanced)
-
--- ---- the distance order is one to find the spaces over
-
-module _ {a : Areas} {r : ℕ} {w w′ : List ℕ} (s : Surveyed a (a .nodes) (a .nodes - 1) w) (d : Distanced a (a .nodes) (a .nodes - 1) w) (o : Shown a By.Distance r w w′) where
-  pub shown-distance : DistanceOrder a (a .nodes) (a .nodes - 1) r w′
-  shown-distance = record { surveyed = surveyed-kept s (o .kept); nodes = o .nodes; order = o .order }
-
-  pub found-trying : {w″ : List ℕ} → SpacesFound a (a .nodes) (a .nodes - 1) w′ w″ → Trying a (a .nodes) (a .nodes - 1) By.Space w″
-  found-trying f =
-      let kept = kept-then (o .kept) (kept-less (f .kept) (a .keys) (a .incoming) (omega arith) (omega (arith, s .graph .apart))) in
-      record { surveyed = surveyed-kept s kept; asked = (distanced-kept (s .graph) d kept, f .numbered) }
+  pub spaced-trying : {w″ : List ℕ} → Spaced a n r root w′ w″ → Trying a n root By.Space w″
+  spaced-trying f =
+      let kept = kept-then (o .kept) (kept-less (f .kept) (a .keys) (a .incoming) (omega (arith, g .apart)) (omega (arith, g .apart))) in
+      record {
+        nodes = s .nodes;
+        surveyed = surveyed-kept (s .surveyed) kept;
+        asked = (rw (kept-above kept (a .distances) (a .nodes) (omega (arith, g .apart))) (s .asked), omega (arith, f .small, o .nodes .few, g .tidy .limit));
+      }

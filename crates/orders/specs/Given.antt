@@ -1,22 +1,16 @@
 -- A test of a graph's words, which the checker computes.
-use Prim.Native.Nat.{ℕ, zero, suc, _+_, _*_, _-_, _<_}
+use Prim.Native.Nat.{ℕ, zero, suc, _+_, _*_, _<_}
 use mathlib.Core.Path.{_≡_}
 use mathlib.Core.List.{List, [], _∷_, _++_}
 use mathlib.Core.Bool.{Bool, true, _&&_}
 use lib.ListN.{length, getD, take}
 use lib.Dec.{eqb, ltb, leb}
-use Rattle.regions.specs.Region.{Kept}
 use Rattle.model.specs.Object.{widthOk}
 use Rattle.model.specs.Graph.{Acyclic}
 use Rattle.work.specs.Areas.{areasOf, workNeed, graphWords}
 use Rattle.work.specs.Packed.{packedWords, mostHalf}
 use Rattle.work.specs.declared.Areas.{Areas}
 use Rattle.order_graph.specs.Graph.{graphOn, linkOf, linksAt, linkCount, mostNodes, mostNodeLinks, mostSize, Stands}
-use Rattle.work.specs.Views.{orderIn}
-use Rattle.order_survey.specs.Survey.{Surveyed}
-use Rattle.order_place.specs.Place.{OrderIds}
-use Rattle.order.specs.Try.{orderWith}
-use Rattle.order.specs.declared.By.{By}
 
 -- enough words for the largest of the graphs
 abbrev pub space : ℕ
@@ -56,15 +50,4 @@ pub record Loaded (f : List ℕ) (at : ℕ) (w w′ : List ℕ) : Type 0 where
 pub record Stood (a : Areas) (w : List ℕ) : Type 0 where
   pub graph : Stands a (a .nodes) w
   pub some : 0 < a .nodes
-  pub falls : Acyclic (graphOn a (a .nodes) w)
-
--- an order stands in the memory, and the next can be tried
-pub record Shown (a : Areas) (by : By) (r : ℕ) (w w′ : List ℕ) : Type 0 where
-  pub kept : Kept (a .keys) (a .incoming) w w′
-  pub nodes : OrderIds a (a .nodes) r w′
-  pub order : orderIn a r w′ ≡ orderWith by (graphOn a (a .nodes) w′) (a .nodes - 1)
-
--- the last node's survey is done
-pub record Prepared (a : Areas) (w : List ℕ) : Type 0 where
-  pub surveyed : Surveyed a (a .nodes) (a .nodes - 1) w
   pub falls : Acyclic (graphOn a (a .nodes) w)

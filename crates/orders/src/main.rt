@@ -7,17 +7,17 @@ ghost use lib.ListN.{length, getD};
 ghost use Rattle.model.specs.Words.{linkWords};
 ghost use Rattle.work.specs.Packed.{mostHalf};
 ghost use Rattle.order_fit.specs.Fit.{Placing};
-ghost use Rattle.order_survey.specs.Survey.{Surveyed, Distanced};
-ghost use Rattle.order.specs.Try.{Trying};
-ghost use Rattle.orders.specs.Given.{packed, given, Loaded, Stood, Shown, Prepared};
+ghost use Rattle.order.specs.Try.{Trying, Ordered};
+ghost use Rattle.order.specs.declared.By.the-variants as By;
+ghost use Rattle.orders.specs.Given.{packed, given, Loaded, Stood};
 use answer::Overflow;
 use layout::words::word;
 use model::LINK_WORDS;
 use order::By;
-use order::find_spaces;
 use order::try_order;
 use order_fit::Look;
 use order_fit::node_at;
+use order_spaces::number_spaces;
 use order_survey::find_distances;
 use order_survey::survey;
 use report::print_next;
@@ -80,7 +80,7 @@ fn print_look(look: Look) {
 // The answer is how many nodes are placed.
 fn show_order(name: &[u8], work: &mut [u64], a: Areas, by: By) -> usize
     requires { ⌜ Trying a (a .nodes) (a .nodes - 1) by (now work) ⌝ }
-    ensures { λ r. ⌜ Shown a by r (now (work .entry)) (now (work .exit)) ⌝ }
+    ensures { λ r. ⌜ Ordered a (a .nodes) (a .nodes - 1) by r (now (work .entry)) (now (work .exit)) ⌝ }
 {
     let n = a.nodes;
     let tried = try_order(work, a, n, n - 1, by);
@@ -92,17 +92,17 @@ fn show_order(name: &[u8], work: &mut [u64], a: Areas, by: By) -> usize
 
 // The spaces go by the distance order.
 fn show_later(work: &mut [u64], a: Areas)
-    requires { ⌜ Surveyed a (a .nodes) (a .nodes - 1) (now work) × Distanced a (a .nodes) (a .nodes - 1) (now work) ⌝ }
+    requires { ⌜ Trying a (a .nodes) (a .nodes - 1) By.Distance (now work) ⌝ }
 {
     let n = a.nodes;
     let placed = show_order(b"distance=", work, a, By::Distance);
-    find_spaces(work, a, n, n - 1, placed);
+    number_spaces(work, a, n, placed, n - 1);
     show_order(b"spaces=", work, a, By::Space);
 }
 
 // The distances are found along the kahn order.
 fn show_each(work: &mut [u64], a: Areas)
-    requires { ⌜ Prepared a (now work) ⌝ }
+    requires { ⌜ Trying a (a .nodes) (a .nodes - 1) By.Readiness (now work) ⌝ }
 {
     let n = a.nodes;
     let placed = show_order(b"\nkahn=", work, a, By::Readiness);

@@ -79,7 +79,7 @@ module _ {b w : List ℕ} {s : State} {t : Tally} {a : Areas} {root : ℕ} {m : 
       pack-laying h = record {
         read = c .read;
         stands = standing-kept stands (z .kept) (omega arith);
-        surveyed = z .surveyed;
+        surveyed = rw (stands .same) at (z .surveyed);
         fits = omega (arith, length-is);
       }
 

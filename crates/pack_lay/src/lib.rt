@@ -2,9 +2,9 @@
 use layout::state::State;
 use order::By;
 use order::Try;
-use order::find_spaces;
 use order::try_order;
 use order_fit::Look;
+use order_spaces::number_spaces;
 use order_survey::find_distances;
 use pack_write::write_table;
 use work::Areas;
@@ -14,7 +14,7 @@ ghost use Rattle.model.specs.Table.{arranged};
 ghost use Rattle.layout.specs.Decode.{decode};
 ghost use Rattle.order_survey.specs.Survey.{Distanced};
 ghost use Rattle.order.specs.Try.{Asked};
-ghost use Rattle.pack_lay.specs.Lay.{laterOrder, Laying, Laid, LaidOrder};
+ghost use Rattle.pack_lay.specs.Lay.{reachedIn, laterOrder, Laying, Laid, LaidOrder};
 
 // One order tried, and its table written where every offset fits.
 fn lay_order(
@@ -27,7 +27,7 @@ fn lay_order(
     out: &mut [u8],
     work: &mut [u64],
 ) -> Try
-    requires { ⌜ Laying (now store) (now records) s a root (length (now out)) (now work) × Asked by a (s .closed) root (now work) ⌝ }
+    requires { ⌜ Laying (now store) (now records) s a root (length (now out)) (now work) × Asked by a (now work) ⌝ }
     ensures { λ r. ⌜ LaidOrder (now (store .entry)) (now (records .entry)) s a root by (r .placed) (r .look) (now (out .entry)) (now (out .exit)) (now (work .entry)) (now (work .exit)) ⌝ }
 {
     let tried = try_order(work, a, s.closed, root, by);
@@ -49,7 +49,7 @@ fn lay_later(
     out: &mut [u8],
     work: &mut [u64],
 ) -> Look
-    requires { ⌜ Laying (now store) (now records) s a root (length (now out)) (now work) × Distanced a (s .closed) root (now work) ⌝ }
+    requires { ⌜ Laying (now store) (now records) s a root (length (now out)) (now work) × Distanced a (s .closed) root (reachedIn (now store) (now records) root) (now work) ⌝ }
     ensures { λ r. ⌜ Laid (now (store .entry)) (now (records .entry)) a (laterOrder (now (store .entry)) (now (records .entry)) root) r (now (out .entry)) (now (out .exit)) (now (work .entry)) (now (work .exit)) ⌝ }
 {
     let tried = lay_order(store, records, s, a, root, By::Distance, out, work);
@@ -57,7 +57,7 @@ fn lay_later(
     let Look::Over(_) = look else {
         return look;
     };
-    find_spaces(work, a, s.closed, root, tried.placed);
+    number_spaces(work, a, s.closed, tried.placed, root);
     let last = lay_order(store, records, s, a, root, By::Space, out, work);
     last.look
 }

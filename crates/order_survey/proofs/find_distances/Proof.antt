@@ -1,4 +1,4 @@
--- `find_distances` meets its contract: a line of what the root reaches gives the model's distances.
+-- `find_distances` meets its contract: a line of the nodes gives the least sums.
 use borrow.Author.Needs.{needs}
 use Rattle.order_survey.proofs.Surveys.{lines-along, lines-found}
 use Rattle.order_survey.proofs.find_distances.Statement.{statement}

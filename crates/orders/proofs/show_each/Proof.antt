@@ -1,6 +1,6 @@
 -- `show_each` meets its contract: the distances are found along the kahn order.
 use borrow.Author.Needs.{needs}
-use Rattle.orders.proofs.Given.{kahn-lines, found-distances}
+use Rattle.orders.proofs.Given.{kahn-lines, near-trying}
 use Rattle.orders.proofs.show_each.Statement.{statement}
 use Rattle.orders.proofs.show_each.Tie as tie
 
@@ -22,7 +22,7 @@ show-later-requires : tie.Need-show-later-requires
 show-later-requires c κs =
     let at-distances = c .before .before .before in
     let at-order = at-distances .before .before .before .before in
-    found-distances (at-order .before .before .before .before .pre) (at-order .show-order .ensures) (at-distances .find-distances .ensures)
+    near-trying (at-order .before .before .before .before .pre) (at-order .show-order .ensures) (at-distances .find-distances .ensures)
 
 same-length : tie.Need-same-length
 same-length c = search needs

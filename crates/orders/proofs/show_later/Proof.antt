@@ -1,5 +1,5 @@
 -- `show_later` meets its contract: the spaces found leave the survey and the distances as they are.
-use Rattle.orders.proofs.Given.{shown-distance, found-trying}
+use Rattle.orders.proofs.Given.{distance-spacing, spaced-trying}
 use borrow.Author.Needs.{needs}
 use Rattle.orders.proofs.show_later.Statement.{statement}
 use Rattle.orders.proofs.show_later.Tie as tie
@@ -10,14 +10,13 @@ slice-aggregate-show-order c = search needs
 show-order-requires : tie.Need-show-order-requires
 show-order-requires c κs = search needs
 
-sub-find-spaces : tie.Need-sub-find-spaces
-sub-find-spaces c = search needs
+sub-number-spaces : tie.Need-sub-number-spaces
+sub-number-spaces c = search needs
 
-find-spaces-requires : tie.Need-find-spaces-requires
-find-spaces-requires c κs =
+number-spaces-requires : tie.Need-number-spaces-requires
+number-spaces-requires c κs =
     let at-order = c .before .before .before in
-    let pre = at-order .before .before .before .before .pre in
-    shown-distance (pre .0) (pre .1) (at-order .show-order .ensures)
+    distance-spacing (at-order .before .before .before .before .pre) (at-order .show-order .ensures)
 
 slice-aggregate-show-order-2 : tie.Need-slice-aggregate-show-order-2
 slice-aggregate-show-order-2 c = search needs
@@ -26,8 +25,7 @@ show-order-requires-2 : tie.Need-show-order-requires-2
 show-order-requires-2 c κs =
     let at-spaces = c .before .before .before .before in
     let at-order = at-spaces .before .before .before .before in
-    let pre = at-order .before .before .before .before .pre in
-    found-trying (pre .0) (pre .1) (at-order .show-order .ensures) (at-spaces .find-spaces .ensures)
+    spaced-trying (at-order .before .before .before .before .pre) (at-order .show-order .ensures) (at-spaces .number-spaces .ensures)
 
 same-length : tie.Need-same-length
 same-length c = search needs
@@ -41,8 +39,8 @@ show-later-spec =
     (tie.spec
     slice-aggregate-show-order
     show-order-requires
-    sub-find-spaces
-    find-spaces-requires
+    sub-number-spaces
+    number-spaces-requires
     slice-aggregate-show-order-2
     show-order-requires-2
     same-length

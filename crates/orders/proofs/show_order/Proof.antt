@@ -1,5 +1,5 @@
 -- `show_order` meets its contract: an order leaves the graph and its survey as they are.
-use Rattle.orders.proofs.Given.{tried-placing, tried-shown}
+use Rattle.orders.proofs.Given.{tried-placing}
 use borrow.Author.Needs.{needs}
 use Rattle.orders.proofs.show_order.Statement.{statement}
 use Rattle.orders.proofs.show_order.Tie as tie
@@ -24,9 +24,7 @@ same-length c = search needs
 
 returns : tie.Need-returns
 returns c =
-    let pre = c .before .before .before .before .before .before .before .before .before .pre in
-    let try-order = c .before .before .before .before .before .try-order .ensures in
-    tried-shown pre try-order
+    c .before .before .before .before .before .try-order .ensures .ordered
 
 pub show-order-spec : {M : Type 1} → statement M
 show-order-spec =

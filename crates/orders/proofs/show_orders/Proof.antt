@@ -1,6 +1,6 @@
 -- `show_orders` meets its contract: the survey leaves the graph.
 use borrow.Author.Needs.{needs}
-use Rattle.orders.proofs.Given.{surveyed-prepared}
+use Rattle.orders.proofs.Given.{measured-trying}
 use Rattle.orders.proofs.show_orders.Statement.{statement}
 use Rattle.orders.proofs.show_orders.Tie as tie
 
@@ -11,9 +11,7 @@ survey-requires : tie.Need-survey-requires
 survey-requires c κs = search needs
 
 show-each-requires : tie.Need-show-each-requires
-show-each-requires c κs =
-    let at-survey = c .before .before .before in
-    surveyed-prepared (at-survey .before .before .before .pre) (at-survey .survey .ensures)
+show-each-requires c κs = measured-trying (c .before .before .before .survey .ensures)
 
 same-length : tie.Need-same-length
 same-length c = search needs

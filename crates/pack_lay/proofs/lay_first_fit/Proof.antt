@@ -1,7 +1,7 @@
 -- `lay_first_fit` meets its contract: distances are found and later orders tried exactly where the plain one does not fit.
-use mathlib.Core.Path.{refl}
+use native.Mathlib.Omega.{arith}
 use borrow.Author.Needs.{needs}
-use Rattle.pack_lay.proofs.Laying.{laid-laying, kahn-lines, near-laying, arranged-first, arranged-later}
+use Rattle.pack_lay.proofs.Laying.{kahn-lines, near-laying, near-known, arranged-first, arranged-later}
 use Rattle.pack_lay.proofs.lay_first_fit.Statement.{statement}
 use Rattle.pack_lay.proofs.lay_first_fit.Tie as tie
 
@@ -35,10 +35,12 @@ find-distances-requires c κs =
 lay-later-requires : tie.Need-lay-later-requires
 lay-later-requires c κs =
     let at-distances = c .before .before .before .before in
-    let at-order = at-distances .before .before .before .before .before .before .before .before in
+    let at-out = at-distances .before .before .before .before .before .before .before in
+    let at-order = at-out .before in
     let pre = at-order .before .before .before .before .before .before .before .pre in
     let distances = at-distances .find-distances .ensures in
-    (near-laying (laid-laying pre (at-order .lay-order .ensures) (search needs)) distances refl, distances .distanced)
+    let order = at-order .lay-order .ensures in
+    (near-laying pre order distances (omega (arith, at-out .out .given)), near-known pre order distances)
 
 same-length-3 : tie.Need-same-length-3
 same-length-3 c = search needs
@@ -53,7 +55,7 @@ returns-2 c =
     let at-told = at-distances .before .before in
     let at-order = at-told .before .before .before .before .before .before in
     let pre = at-order .before .before .before .before .before .before .before .pre in
-    arranged-later pre (at-order .lay-order .ensures) ((at-told .enum-told) .given .1) (at-distances .find-distances .ensures) (at-later .lay-later .ensures)
+    arranged-later pre (at-order .lay-order .ensures) (at-distances .find-distances .ensures) ((at-told .enum-told) .given .1) (at-later .lay-later .ensures)
 
 pub lay-first-fit-spec : {M : Type 1} → statement M
 lay-first-fit-spec =

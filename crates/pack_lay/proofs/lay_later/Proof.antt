@@ -1,8 +1,7 @@
 -- `lay_later` meets its contract: the spaces are found and the order by them tried exactly where the distance order does not fit.
-use mathlib.Core.Path.{refl}
 use native.Mathlib.Omega.{arith}
 use borrow.Author.Needs.{needs}
-use Rattle.pack_lay.proofs.Laying.{laid-laying, laid-distanced, distance-order, found-laying, found-distanced, later-first, later-last}
+use Rattle.pack_lay.proofs.Laying.{distance-spacing, found-laying, found-asked, later-first, later-last}
 use Rattle.pack_lay.proofs.lay_later.Statement.{statement}
 use Rattle.pack_lay.proofs.lay_later.Tie as tie
 
@@ -25,13 +24,13 @@ returns : tie.Need-returns
 returns c =
     let at-order = c .before .before .before .before .before .before in
     let pre = at-order .before .before .before .before .before .before .before .pre in
-    later-first (pre .0) (at-order .lay-order .ensures) ((c .enum-told2) .given .1)
+    later-first (pre .0) (pre .1) (at-order .lay-order .ensures) ((c .enum-told2) .given .1)
 
-find-spaces-requires : tie.Need-find-spaces-requires
-find-spaces-requires c κs =
+number-spaces-requires : tie.Need-number-spaces-requires
+number-spaces-requires c κs =
     let at-order = c .before .before .before .before .before .before .before in
     let pre = at-order .before .before .before .before .before .before .before .pre in
-    distance-order (pre .0) (at-order .lay-order .ensures)
+    distance-spacing (pre .0) (pre .1) (at-order .lay-order .ensures)
 
 lay-order-requires-2 : tie.Need-lay-order-requires-2
 lay-order-requires-2 c κs =
@@ -40,9 +39,8 @@ lay-order-requires-2 c κs =
     let at-order = at-out .before in
     let pre = at-order .before .before .before .before .before .before .before .pre in
     let order = at-order .lay-order .ensures in
-    let spaces = at-spaces .find-spaces .ensures in
-    let laying = laid-laying (pre .0) order refl in
-    (found-laying laying spaces (omega (arith, at-out .out .given)), (found-distanced laying spaces (laid-distanced (pre .0) order (pre .1)), spaces .numbered))
+    let spaces = at-spaces .number-spaces .ensures in
+    (found-laying (pre .0) (pre .1) order spaces (omega (arith, at-out .out .given)), found-asked (pre .0) (pre .1) order spaces)
 
 same-length-3 : tie.Need-same-length-3
 same-length-3 c = search needs
@@ -57,7 +55,7 @@ returns-2 c =
     let at-told = at-spaces .before .before in
     let at-order = at-told .before .before .before .before .before .before in
     let pre = at-order .before .before .before .before .before .before .before .pre in
-    later-last (pre .0) (at-order .lay-order .ensures) ((at-told .enum-told) .given .1) (at-spaces .find-spaces .ensures) (at-last .lay-order2 .ensures)
+    later-last (pre .0) (pre .1) (at-order .lay-order .ensures) (at-spaces .number-spaces .ensures) ((at-told .enum-told) .given .1) (at-last .lay-order2 .ensures)
 
 pub lay-later-spec : {M : Type 1} → statement M
 lay-later-spec =
@@ -69,7 +67,7 @@ lay-later-spec =
     same-length
     same-length-2
     returns
-    find-spaces-requires
+    number-spaces-requires
     lay-order-requires-2
     same-length-3
     same-length-4
