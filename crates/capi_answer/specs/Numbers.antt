@@ -1,4 +1,4 @@
--- docs/RULES.md, section 6: an answer as ten numbers.
+-- docs/RULES.md, section 6: an answer as eleven numbers.
 use Rattle.model.specs.Told.{Told}
 use Rattle.capi_answer.specs.declared.Numbers.{Numbers}
 
@@ -10,5 +10,6 @@ toldIn n =
       tally = record { bytes = n .bytes; links = n .links; objects = n .objects; depth = n .depth };
       id = n .id;
       length = n .length;
+      copies = n .copies;
       overflow = record { parent = record { 0 = n .parent }; field = n .field; needed = n .needed };
     }

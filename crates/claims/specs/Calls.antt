@@ -8,8 +8,8 @@ use lib.Dec.{eqb}
 use Rattle.lists.specs.Lists.{Exactly}
 use Rattle.answer.specs.declared.Refusal.{Refusal}
 use Rattle.model.specs.Object.{hopelessObject}
-use Rattle.model.specs.Graph.{graphOf}
-use Rattle.model.specs.Table.{arranged, tableLength}
+use Rattle.model.specs.Copies.{lengthOf}
+use Rattle.model.specs.Session.{arrangedIn}
 use Rattle.model.specs.Judge.{Test, Tells, inTable, startTests, openTests, putTests, linkTests, closeTests, dropTests, tallyTests, packTests}
 use Rattle.model.specs.Told.{refusal}
 use Rattle.layout.specs.Words.{objectLimit, linkLimit, need, limitsIn, top}
@@ -35,25 +35,30 @@ module _ (s : Stores) where
   testsOf (onStores close) = closeTests (sound b w) (limitsIn w) (tallyIn b w) (top w - under w) (hopelessObject (innermostIn b w)) (twinIn b w)
   testsOf (onStores dropCall) = dropTests (sound b w) (tallyIn b w)
   testsOf (onStores tally) = tallyTests (sound b w)
-  testsOf (pack id out work) =
-      let g = graphOf (decode b w .closed) in
-      packTests (sound b w) (tallyIn b w) id (length work) (workNeed (objectLimit w) (linkLimit w)) (length out) (tableLength g id) (arranged g id)
+  testsOf (pack id copies out work) =
+      let c = arrangedIn (decode b w) id copies in
+      packTests (sound b w) (tallyIn b w) id copies (length work) (workNeed (objectLimit w) (linkLimit w) copies) (length out) (lengthOf c) (c .outcome)
 
-  -- how many words the record store and the work memory need, for the limits noted in the stores
+  -- how many words the record store needs, for the limits noted in the stores, and with so many copies allowed the work memory
   abbrev pub recordsNeeded : ℕ
   recordsNeeded = need (objectLimit w) (linkLimit w)
 
-  abbrev pub workNeeded : ℕ
-  workNeeded = workNeed (objectLimit w) (linkLimit w)
+  abbrev pub workNeeded : ℕ → ℕ
+  workNeeded copies = workNeed (objectLimit w) (linkLimit w) copies
 
 -- what a call is lent beside the stores
 abbrev pub outIn : LentCall → List ℕ
 outIn (onStores c) = []
-outIn (pack id out work) = out
+outIn (pack id copies out work) = out
 
 abbrev pub workIn : LentCall → List ℕ
 workIn (onStores c) = []
-workIn (pack id out work) = work
+workIn (pack id copies out work) = work
+
+-- the copies that a call allows
+abbrev pub copiesIn : LentCall → ℕ
+copiesIn (onStores c) = 0
+copiesIn (pack id copies out work) = copies
 
 -- the numbers beside which a pack clears the needed work memory
 abbrev pub clearing : ℕ → Bool
@@ -70,7 +75,9 @@ pub record Answers (s : Stores) (c : LentCall) (l : LentLeft) : Type 0 where
   pub outStands : (l .told .number ≡ 0 → ⊥) → l .out ≡ outIn c
   -- words past the needs are never touched, whatever is told; a start's limits are those that it notes
   pub recordsSurplus : drop (recordsNeeded (l .stores)) (l .stores .words) ≡ drop (recordsNeeded (l .stores)) (s .words)
-  pub workSurplus : drop (workNeeded s) (l .work) ≡ drop (workNeeded s) (workIn c)
+  pub workSurplus : drop (workNeeded s (copiesIn c)) (l .work) ≡ drop (workNeeded s (copiesIn c)) (workIn c)
   -- a pack's 0, 10 and 11 leave zeros in the needed work memory; every other number leaves it as it was
-  pub workCleared : (id : ℕ) (out work : List ℕ) → c ≡ pack id out work → clearing (l .told .number) ≡ true → take (workNeeded s) (l .work) ≡ replicate (workNeeded s) 0
+  pub workCleared :
+      (id copies : ℕ) (out work : List ℕ) → c ≡ pack id copies out work → clearing (l .told .number) ≡ true
+      → take (workNeeded s copies) (l .work) ≡ replicate (workNeeded s copies) 0
   pub workStands : clearing (l .told .number) ≡ false → l .work ≡ workIn c

@@ -32,7 +32,7 @@ onStore tallyCall = tally
 -- a pack is lent as much work memory as it needs
 abbrev lent : Limits → Call → LentCall
 lent m (sessionCall c) = onStores (onStore c)
-lent m (packCall id out work) = pack id (replicate out stale) (replicate (workNeed (m .objects) (m .links)) stale)
+lent m (packCall id copies out work) = pack id copies (replicate out stale) (replicate (workNeed (m .objects) (m .links) copies) stale)
 
 abbrev callsOf : Case → List Call
 callsOf c = sessionCall (startCall (c .limits) 0) ∷ c .calls
@@ -48,7 +48,7 @@ unfoldable pub idsTold : List Call → List Made → List ℕ
 idsTold [] ms = []
 idsTold (c ∷ cs) [] = []
 idsTold (sessionCall c ∷ cs) (m ∷ ms) = idsIn c (m .left .told .id) ++ idsTold cs ms
-idsTold (packCall id out work ∷ cs) (m ∷ ms) = idsTold cs ms
+idsTold (packCall id copies out work ∷ cs) (m ∷ ms) = idsTold cs ms
 
 -- the counts beside the last answer
 unfoldable pub countsTold : Tally → List Made → List ℕ
@@ -60,10 +60,10 @@ unfoldable pub memoryRight : Case → List Call → List Made → Bool
 memoryRight c [] ms = true
 memoryRight c (k ∷ ks) [] = true
 memoryRight c (sessionCall k ∷ ks) (m ∷ ms) = memoryRight c ks ms
-memoryRight c (packCall id out work ∷ ks) (m ∷ ms) =
+memoryRight c (packCall id copies out work ∷ ks) (m ∷ ms) =
     let done = eqb (m .left .told .number) 0 in
     sameList eqb (m .left .out) (over 0 (pick done (c .table) []) (replicate out stale))
-    && (sameList eqb (m .left .work) (replicate (workNeed (c .limits .objects) (c .limits .links)) (pick done 0 stale)) && memoryRight c ks ms)
+    && (sameList eqb (m .left .work) (replicate (workNeed (c .limits .objects) (c .limits .links) copies) (pick done 0 stale)) && memoryRight c ks ms)
 
 unfoldable pub right : Case → Bool
 right c =

@@ -4,20 +4,20 @@ use mathlib.Core.Path.{_≡_}
 use mathlib.Core.List.{List, [], _∷_}
 use mathlib.Core.Bool.{true}
 use lib.ListN.{length, take, drop}
-use Rattle.lists.specs.Lists.{pick, total}
+use Rattle.lists.specs.Lists.{pick}
 use Rattle.answer.specs.Number.{noTally}
 use Rattle.model.specs.Judge.{noTallyBeside}
 use Rattle.model.specs.Told.{done}
-use Rattle.model.specs.Reading.{Reading, readingAt, readingSize, Shows, below, different}
+use Rattle.model.specs.Reading.{Reading, readingAt, Shows}
 use Rattle.model.specs.Session.{Needs, Call, sessionCall, packCall}
-use Rattle.model.specs.History.{History, historyOf, innermostReading, counts, expected, afterAll, NoStart, AllDifferent, Alike}
+use Rattle.model.specs.History.{History, Lengthened, historyOf, innermostReading, counts, expected, afterAll, NoStart, AllDifferent, Alike}
 use Rattle.layout.specs.Sound.{sound}
 use Rattle.layout.specs.Decode.{decode}
 use Rattle.work.specs.Areas.{workNeed}
 use Rattle.steps.specs.Runs.{close, tally, Stores, stepOn, LentCall, onStores, pack, LentLeft, lentStep, asCall, needsWith}
 
 abbrev pub needs : Needs
-needs = needsWith (λ m. workNeed (m .objects) (m .links))
+needs = needsWith (λ m copies. workNeed (m .objects) (m .links) copies)
 
 -- ---- a list of calls, with what each left
 
@@ -39,7 +39,7 @@ pub record Table (h : History) (root : ℕ) (out : List ℕ) (l : LentLeft) : Ty
   pub room : l .told .length ≤ length out
   pub shown : Shows (take (l .told .length) (l .out)) 0 (readingAt (h .closed) root)
   pub rest : drop (l .told .length) (l .out) ≡ drop (l .told .length) out
-  pub sum : l .told .length ≡ total readingSize (different (readingAt (h .closed) root ∷ below (readingAt (h .closed) root)))
+  pub sum : Lengthened (readingAt (h .closed) root) (l .told .length) (l .told .copies)
 
 pub record PackClaim (h : History) (root : ℕ) (out : List ℕ) (l : LentLeft) : Type 0 where
   pub counted : l .told .tally ≡ pick (noTallyBeside (l .told .number)) noTally (counts h)
@@ -56,7 +56,7 @@ module _ (bytes words : ℕ) where
   -- the calls that a call stands for
   unfoldable pub asLent : LentCall → List Call
   asLent (onStores c) = sessionCall (asCall bytes words c) ∷ []
-  asLent (pack id out work) = packCall id (length out) (length work) ∷ []
+  asLent (pack id copies out work) = packCall id copies (length out) (length work) ∷ []
 
   abbrev pub afterOne : LentCall → History → History
   afterOne c h = afterAll needs (asLent c) h
@@ -86,7 +86,7 @@ module _ (bytes words : ℕ) where
 
   unfoldable pub Claim : LentCall → History → LentLeft → Type 0
   Claim (onStores c) h l = l .told ≡ expected needs (asCall bytes words c) h
-  Claim (pack id out work) h l = PackClaim h id out l
+  Claim (pack id copies out work) h l = PackClaim h id out l
 
   -- up to the next accepted start an accepted close tells i exactly if its object reads r
   unfoldable pub KeepsId : Reading → ℕ → List Made → History → Type 0

@@ -6,9 +6,11 @@ use mathlib.Core.Bool.{true}
 use lib.ListN.{length}
 use Rattle.lists.specs.Lists.{over}
 use Rattle.answer.specs.declared.Overflow.{Overflow}
-use Rattle.model.specs.Graph.{Graph, graphOf, reached}
+use Rattle.model.specs.Graph.{Graph, graphOf}
 use Rattle.model.specs.Reading.{readingAt, readings}
-use Rattle.model.specs.Table.{tableLength, tableOf, ordersOf, FirstFit, NoneFits}
+use Rattle.model.specs.Table.{placed}
+use Rattle.model.specs.Copies.{Grown, tableBy, Chosen, Unresolved}
+use Rattle.model.specs.Judge.{mostCopies}
 use Rattle.model.specs.Laid.{LaidOut}
 use Rattle.model.specs.Told.{Told, donePack}
 use Rattle.model.specs.Session.{content}
@@ -19,35 +21,39 @@ use Rattle.layout.specs.Sound.{sound}
 use Rattle.steps.specs.Steps.{tallyIn}
 use Rattle.steps.specs.Runs.{stores, pack, lentStep}
 
-module _ (b w : List ℕ) (id : ℕ) (out work : List ℕ) where
+module _ (b w : List ℕ) (id copies : ℕ) (out work : List ℕ) where
   -- the closed objects
   abbrev pub graphIn : Graph
   graphIn = graphOf (decode b w .closed)
 
-  abbrev pub tableBy : List ℕ → List ℕ
-  tableBy o = tableOf graphIn (content (decode b w)) o
+  abbrev pub tableOn : Grown → List ℕ → List ℕ
+  tableOn z o = tableBy (content (decode b w)) z (placed o)
 
   abbrev pub packTold : Told
-  packTold = lentStep (pack id out work) (stores b w) .told
+  packTold = lentStep (pack id copies out work) (stores b w) .told
 
   -- no test ranked before that of the orders applies
   pub record Admitted : Type 0 where
     pub isSound : sound b w ≡ true
-    pub memory : workNeed (objectLimit w) (linkLimit w) ≤ length work
+    pub few : copies ≤ mostCopies
+    pub memory : workNeed (objectLimit w) (linkLimit w) copies ≤ length work
     pub noneOpen : openDepth w ≡ 0
     pub known : id < closedCount w
-    pub room : tableLength graphIn id ≤ length out
 
-  -- an accepted pack: the order chosen; its table in front of the output, and the table's length told; and what the table shows
+  -- an accepted pack: the graph with its copies and its order; the table in front of the output, the table's length and the copies told; and what the
+  -- table shows: each node its object's reading, each field leading to its child's or a copy's place, which lies later
   pub record Ordered : Type 0 where
     pub admitted : Admitted
+    pub grown : Grown
     pub order : List ℕ
-    pub chosen : FirstFit graphIn order (ordersOf graphIn id)
-    pub told : packTold ≡ donePack (length (tableBy order)) (tallyIn b w)
-    pub written : lentStep (pack id out work) (stores b w) .out ≡ over 0 (tableBy order) out
-    pub laid : LaidOut graphIn (reached graphIn id) id (readingAt (readings (decode b w .closed))) order (tableBy order)
+    pub chosen : Chosen copies graphIn (length (decode b w .closed)) id grown order
+    pub room : length (tableOn grown order) ≤ length out
+    pub told : packTold ≡ donePack (length (tableOn grown order)) (length (grown .copies)) (tallyIn b w)
+    pub written : lentStep (pack id copies out work) (stores b w) .out ≡ over 0 (tableOn grown order) out
+    pub laid :
+        LaidOut (grown .graph) (grown .line) id (λ i. readingAt (readings (decode b w .closed)) (grown .origin i)) order (tableOn grown order)
 
   -- a pack that tells 11, with link v
   pub record Overflows (v : Overflow) : Type 0 where
     pub admitted : Admitted
-    pub unfits : NoneFits graphIn v (ordersOf graphIn id)
+    pub unfits : Unresolved copies graphIn (length (decode b w .closed)) id v

@@ -40,6 +40,6 @@ pub data CalledC : Stores → Made → Type 0 where
   c-pack : (f : Returned 4 pack-kinds.ps pack-kinds.r pack-reads.Post)
       → CalledC (stores (now (f .args .0)) (now (f .args .1 .0)))
       (record {
-        call = pack (f .args .1 .1 .0) (now (f .args .1 .1 .1 .0)) (now (f .args .1 .1 .1 .1 .0));
-        left = packLeft (toldIn (f .result)) (stores (now (f .args .0)) (now (f .args .1 .0))) (now (f .exit .1 .1 .1 .0)) (now (f .exit .1 .1 .1 .1 .0));
+        call = pack (f .args .1 .1 .0) (f .args .1 .1 .1 .0) (now (f .args .1 .1 .1 .1 .0)) (now (f .args .1 .1 .1 .1 .1 .0));
+        left = packLeft (toldIn (f .result)) (stores (now (f .args .0)) (now (f .args .1 .0))) (now (f .exit .1 .1 .1 .1 .0)) (now (f .exit .1 .1 .1 .1 .1 .0));
       })

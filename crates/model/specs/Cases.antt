@@ -7,7 +7,7 @@ use Rattle.lists.specs.Lists.{sameList}
 use Rattle.answer.specs.Number.{noOverflow}
 use Rattle.answer.specs.declared.tally.Tally.{Tally}
 use Rattle.model.specs.Object.{Slot, newSlot, anyHopeless}
-use Rattle.model.specs.Table.{overflow}
+use Rattle.model.specs.Table.{placed, overflow}
 use Rattle.model.specs.Judge.{Limits, Verdict, judgeStart, judgeLink, judgeClose, judgePack}
 use Rattle.model.specs.Session.{Needs, Session, started, tallyOf, SessionCall, startCall, openCall, putCall, linkCall, closeCall, dropCall, tallyCall, step, pack, Call, sessionCall, packCall, afterCall}
 
@@ -24,12 +24,12 @@ pub record Case : Type 0 where
 
 -- the needs of lent memory play no part here
 abbrev noNeeds : Needs
-noNeeds = record { records = λ m. 0; work = λ m. 0 }
+noNeeds = record { records = λ m. 0; work = λ m copies. 0 }
 
 unfoldable pub numbersOf : List Call → Session → List ℕ
 numbersOf [] s = []
 numbersOf (sessionCall c ∷ cs) s = step noNeeds c s .told .number ∷ numbersOf cs (step noNeeds c s .after)
-numbersOf (packCall id out work ∷ cs) s = pack noNeeds id out work s .told .number ∷ numbersOf cs s
+numbersOf (packCall id copies out work ∷ cs) s = pack noNeeds id copies out work s .told .number ∷ numbersOf cs s
 
 abbrev pub idsIn : SessionCall → ℕ → List ℕ
 idsIn (startCall m records) i = []
@@ -43,7 +43,7 @@ idsIn tallyCall i = []
 unfoldable pub idsOf : List Call → Session → List ℕ
 idsOf [] s = []
 idsOf (sessionCall c ∷ cs) s = idsIn c (step noNeeds c s .told .id) ++ idsOf cs (step noNeeds c s .after)
-idsOf (packCall id out work ∷ cs) s = idsOf cs s
+idsOf (packCall id copies out work ∷ cs) s = idsOf cs s
 
 unfoldable pub countsOf : List Call → Session → List ℕ
 countsOf [] s = let t = tallyOf s in t .bytes ∷ t .links ∷ t .objects ∷ t .depth ∷ []
@@ -52,7 +52,7 @@ countsOf (c ∷ cs) s = countsOf cs (afterCall noNeeds c s)
 unfoldable pub tablesOf : List Call → Session → List ℕ
 tablesOf [] s = []
 tablesOf (sessionCall c ∷ cs) s = tablesOf cs (step noNeeds c s .after)
-tablesOf (packCall id out work ∷ cs) s = pack noNeeds id out work s .table ++ tablesOf cs s
+tablesOf (packCall id copies out work ∷ cs) s = pack noNeeds id copies out work s .table ++ tablesOf cs s
 
 unfoldable pub right : Case → Bool
 right c =
@@ -112,7 +112,7 @@ abbrev pub cases : List Case
 cases =
     record {
       limits = limitsOf 8 8 64;
-      calls = four ++ (closes ∷ packCall 3 12 0 ∷ []);
+      calls = four ++ (closes ∷ packCall 3 0 12 0 ∷ []);
       numbers = 0 ∷ 0 ∷ 0 ∷ 0 ∷ 0 ∷ 0 ∷ 0 ∷ 0 ∷ 0 ∷ 0 ∷ 0 ∷ 0 ∷ 0 ∷ 0 ∷ 0 ∷ 0 ∷ 0 ∷ 0 ∷ 0 ∷ 0 ∷ [];
       ids = 0 ∷ 1 ∷ 0 ∷ 2 ∷ 3 ∷ [];
       counts = 12 ∷ 4 ∷ 4 ∷ 0 ∷ [];
@@ -136,7 +136,7 @@ cases =
     }
     ∷ record {
       limits = limitsOf 8 8 64;
-      calls = leaf (0x78 ∷ []) ++ (opens ∷ links 2 0 ∷ links 2 0 ∷ closes ∷ packCall 1 64 0 ∷ []);
+      calls = leaf (0x78 ∷ []) ++ (opens ∷ links 2 0 ∷ links 2 0 ∷ closes ∷ packCall 1 0 64 0 ∷ []);
       numbers = 0 ∷ 0 ∷ 0 ∷ 0 ∷ 0 ∷ 0 ∷ 0 ∷ 0 ∷ [];
       ids = 0 ∷ 1 ∷ [];
       counts = 5 ∷ 2 ∷ 2 ∷ 0 ∷ [];
@@ -144,7 +144,7 @@ cases =
     }
     ∷ record {
       limits = limitsOf 8 8 64;
-      calls = leaf (0x78 ∷ []) ++ (opens ∷ links 4 0 ∷ closes ∷ packCall 1 64 0 ∷ []);
+      calls = leaf (0x78 ∷ []) ++ (opens ∷ links 4 0 ∷ closes ∷ packCall 1 0 64 0 ∷ []);
       numbers = 0 ∷ 0 ∷ 0 ∷ 0 ∷ 0 ∷ 0 ∷ 0 ∷ [];
       ids = 0 ∷ 1 ∷ [];
       counts = 5 ∷ 1 ∷ 2 ∷ 0 ∷ [];
@@ -152,7 +152,7 @@ cases =
     }
     ∷ record {
       limits = limitsOf 8 8 64;
-      calls = leaf (0x78 ∷ []) ++ (opens ∷ links 2 0 ∷ closes ∷ opens ∷ links 2 0 ∷ links 2 1 ∷ closes ∷ packCall 2 64 0 ∷ []);
+      calls = leaf (0x78 ∷ []) ++ (opens ∷ links 2 0 ∷ closes ∷ opens ∷ links 2 0 ∷ links 2 1 ∷ closes ∷ packCall 2 0 64 0 ∷ []);
       numbers = 0 ∷ 0 ∷ 0 ∷ 0 ∷ 0 ∷ 0 ∷ 0 ∷ 0 ∷ 0 ∷ 0 ∷ 0 ∷ [];
       ids = 0 ∷ 1 ∷ 2 ∷ [];
       counts = 7 ∷ 3 ∷ 3 ∷ 0 ∷ [];
@@ -160,7 +160,7 @@ cases =
     }
     ∷ record {
       limits = limitsOf 8 8 64;
-      calls = leaf (0x64 ∷ []) ++ leaf (0x65 ∷ []) ++ (packCall 1 64 0 ∷ []);
+      calls = leaf (0x64 ∷ []) ++ leaf (0x65 ∷ []) ++ (packCall 1 0 64 0 ∷ []);
       numbers = 0 ∷ 0 ∷ 0 ∷ 0 ∷ 0 ∷ 0 ∷ 0 ∷ [];
       ids = 0 ∷ 1 ∷ [];
       counts = 2 ∷ 0 ∷ 2 ∷ 0 ∷ [];
@@ -192,7 +192,7 @@ cases =
     }
     ∷ record {
       limits = limitsOf 8 8 64;
-      calls = tallies ∷ packCall 0 64 0 ∷ [];
+      calls = tallies ∷ packCall 0 0 64 0 ∷ [];
       numbers = 0 ∷ 4 ∷ [];
       ids = [];
       counts = 0 ∷ 0 ∷ 0 ∷ 0 ∷ [];
@@ -201,7 +201,7 @@ cases =
     -- an all-zero child: a field left 0 would show it too, from the table's first byte
     ∷ record {
       limits = limitsOf 8 8 64;
-      calls = leaf (0x00 ∷ 0x00 ∷ []) ++ (opens ∷ links 2 0 ∷ closes ∷ packCall 1 64 0 ∷ []);
+      calls = leaf (0x00 ∷ 0x00 ∷ []) ++ (opens ∷ links 2 0 ∷ closes ∷ packCall 1 0 64 0 ∷ []);
       numbers = 0 ∷ 0 ∷ 0 ∷ 0 ∷ 0 ∷ 0 ∷ 0 ∷ [];
       ids = 0 ∷ 1 ∷ [];
       counts = 4 ∷ 1 ∷ 2 ∷ 0 ∷ [];
@@ -209,7 +209,7 @@ cases =
     }
     ∷ record {
       limits = limitsOf 8 8 64;
-      calls = leaf (0x78 ∷ []) ++ (opens ∷ links 3 0 ∷ closes ∷ packCall 1 64 0 ∷ []);
+      calls = leaf (0x78 ∷ []) ++ (opens ∷ links 3 0 ∷ closes ∷ packCall 1 0 64 0 ∷ []);
       numbers = 0 ∷ 0 ∷ 0 ∷ 0 ∷ 0 ∷ 0 ∷ 0 ∷ [];
       ids = 0 ∷ 1 ∷ [];
       counts = 4 ∷ 1 ∷ 2 ∷ 0 ∷ [];
@@ -217,7 +217,7 @@ cases =
     }
     ∷ record {
       limits = limitsOf 8 8 64;
-      calls = leaf (0x78 ∷ []) ++ (opens ∷ links 3 0 ∷ links 2 0 ∷ closes ∷ packCall 1 64 0 ∷ []);
+      calls = leaf (0x78 ∷ []) ++ (opens ∷ links 3 0 ∷ links 2 0 ∷ closes ∷ packCall 1 0 64 0 ∷ []);
       numbers = 0 ∷ 0 ∷ 0 ∷ 0 ∷ 0 ∷ 0 ∷ 0 ∷ 0 ∷ [];
       ids = 0 ∷ 1 ∷ [];
       counts = 6 ∷ 2 ∷ 2 ∷ 0 ∷ [];
@@ -226,7 +226,7 @@ cases =
     -- offsets that count from behind a header, and one that does not
     ∷ record {
       limits = limitsOf 8 8 64;
-      calls = leaf (0x78 ∷ []) ++ (opens ∷ puts header ∷ linksFrom 2 0 4 ∷ closes ∷ packCall 1 64 0 ∷ []);
+      calls = leaf (0x78 ∷ []) ++ (opens ∷ puts header ∷ linksFrom 2 0 4 ∷ closes ∷ packCall 1 0 64 0 ∷ []);
       numbers = 0 ∷ 0 ∷ 0 ∷ 0 ∷ 0 ∷ 0 ∷ 0 ∷ 0 ∷ [];
       ids = 0 ∷ 1 ∷ [];
       counts = 7 ∷ 1 ∷ 2 ∷ 0 ∷ [];
@@ -234,7 +234,7 @@ cases =
     }
     ∷ record {
       limits = limitsOf 8 8 64;
-      calls = leaf (0x78 ∷ []) ++ (opens ∷ puts header ∷ linksFrom 2 0 4 ∷ links 2 0 ∷ closes ∷ packCall 1 64 0 ∷ []);
+      calls = leaf (0x78 ∷ []) ++ (opens ∷ puts header ∷ linksFrom 2 0 4 ∷ links 2 0 ∷ closes ∷ packCall 1 0 64 0 ∷ []);
       numbers = 0 ∷ 0 ∷ 0 ∷ 0 ∷ 0 ∷ 0 ∷ 0 ∷ 0 ∷ 0 ∷ [];
       ids = 0 ∷ 1 ∷ [];
       counts = 9 ∷ 2 ∷ 2 ∷ 0 ∷ [];
@@ -316,11 +316,13 @@ several =
     ∷ judgeClose true (limitsOf 1 0 1) (holding 1) 1 true 1
     ∷ judgeClose true (limitsOf 1 0 1) (holding 1) 1 false 1
     ∷ [])
-    ∷ (judgePack false (holding 1) 1 0 1 0 1 (overflow noOverflow)
-    ∷ judgePack true (holding 1) 1 0 1 0 1 (overflow noOverflow)
-    ∷ judgePack true (holding 1) 1 1 1 0 1 (overflow noOverflow)
-    ∷ judgePack true (holding 0) 1 1 1 0 1 (overflow noOverflow)
-    ∷ judgePack true (holding 0) 0 1 1 0 1 (overflow noOverflow)
-    ∷ judgePack true (holding 0) 0 1 1 1 1 (overflow noOverflow)
+    ∷ (judgePack false (holding 1) 1 1025 0 1 0 1 (overflow noOverflow)
+    ∷ judgePack true (holding 1) 1 1025 1 1 0 1 (overflow noOverflow)
+    ∷ judgePack true (holding 1) 1 1024 0 1 0 1 (overflow noOverflow)
+    ∷ judgePack true (holding 1) 1 1024 1 1 0 1 (overflow noOverflow)
+    ∷ judgePack true (holding 0) 1 1024 1 1 0 1 (overflow noOverflow)
+    ∷ judgePack true (holding 0) 0 1024 1 1 0 1 (overflow noOverflow)
+    ∷ judgePack true (holding 0) 0 1024 1 1 0 1 (placed [])
+    ∷ judgePack true (holding 0) 0 1024 1 1 1 1 (placed [])
     ∷ [])
     ∷ []

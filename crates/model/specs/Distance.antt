@@ -47,11 +47,14 @@ distancesBy far wt g o n root = relaxAll far wt g o (set (replicate n far) root 
 unfoldable pub beyond : (Link → ℕ) → Graph → List ℕ → ℕ
 beyond wt g o = suc (total (λ p. total wt (g .links p)) o)
 
-unfoldable pub distance : Graph → ℕ → ℕ → ℕ
-distance g root c =
-    let o = reached g root in
+-- along a list of nodes whose ids are below n
+unfoldable pub distanceAlong : Graph → List ℕ → ℕ → ℕ → ℕ → ℕ
+distanceAlong g o n root c =
     let far = beyond (weight g) g o in
-    getD (distancesBy far (weight g) g o (suc root) root) c far
+    getD (distancesBy far (weight g) g o n root) c far
+
+unfoldable pub distance : Graph → ℕ → ℕ → ℕ
+distance g root = distanceAlong g (reached g root) (suc root) root
 
 -- ---- the orders
 

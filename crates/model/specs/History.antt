@@ -1,7 +1,7 @@
 -- docs/RULES.md, section 8: what the arguments of the calls alone say the session holds. It is told no memory and no answer.
 use Prim.Native.Nat.{ℕ, _+_, _<_}
 use mathlib.Core.Path.{_≡_}
-use mathlib.Core.List.{List, [], _∷_, _++_, map}
+use mathlib.Core.List.{List, [], _∷_, _++_, map, List·Memᴰ}
 use mathlib.Core.Bool.{true}
 use lib.ListN.{length, replicate}
 use lib.Dec.{ltb}
@@ -113,7 +113,7 @@ next (refused why) new old = old
 -- nor does a pack
 unfoldable pub after : Needs → Call → History → History
 after n (sessionCall c) h = next (judged n c h) (accept c h) h
-after n (packCall id out work) h = h
+after n (packCall id copies out work) h = h
 
 -- several calls, one after the other
 unfoldable pub afterAll : Needs → List Call → History → History
@@ -129,7 +129,7 @@ Starts n (sessionCall (linkCall w id i)) h = ⊥
 Starts n (sessionCall closeCall) h = ⊥
 Starts n (sessionCall dropCall) h = ⊥
 Starts n (sessionCall tallyCall) h = ⊥
-Starts n (packCall id out work) h = ⊥
+Starts n (packCall id copies out work) h = ⊥
 
 -- no call of a list is one
 unfoldable pub NoStart : Needs → List Call → History → Type 0
@@ -155,11 +155,18 @@ tell (refused why) t whenDone = refusal why t
 unfoldable pub expected : Needs → SessionCall → History → Told
 expected n c h = tell (judged n c h) (counts h) (doneClose (idTold c h) (counts (accept c h)))
 
--- an accepted pack leaves a table that shows the root's reading from its first byte, as long as the different readings in it
+-- the length of a table: that of the different readings among the root's and those below it, and that of the copies made, which are among them too
+pub record Lengthened (root : Reading) (size copies : ℕ) : Type 0 where
+  pub made : List Reading
+  pub each : (r : Reading) → List·Memᴰ r made → List·Memᴰ r (root ∷ below root)
+  pub count : length made ≡ copies
+  pub sum : size ≡ total readingSize (different (root ∷ below root)) + total readingSize made
+
+-- an accepted pack leaves a table that shows the root's reading from its first byte, as long as that
 pub record Packed (h : History) (root : ℕ) (p : PackLeft) : Type 0 where
   pub shown : Shows (p .table) 0 (readingAt (h .closed) root)
   pub long : length (p .table) ≡ p .told .length
-  pub sum : p .told .length ≡ total readingSize (different (readingAt (h .closed) root ∷ below (readingAt (h .closed) root)))
+  pub sum : Lengthened (readingAt (h .closed) root) (p .told .length) (p .told .copies)
 
 -- the tally beside a pack's number is the history's, but zero beside 12 and 13
 pub record PackAgrees (h : History) (root : ℕ) (p : PackLeft) : Type 0 where
@@ -179,7 +186,7 @@ pub record Alike (q r : Reading) (j i : ℕ) : Type 0 where
 
 unfoldable pub Agrees : Needs → Call → Session → History → Type 0
 Agrees n (sessionCall c) s h = step n c s .told ≡ expected n c h
-Agrees n (packCall id out work) s h = PackAgrees h id (pack n id out work s)
+Agrees n (packCall id copies out work) s h = PackAgrees h id (pack n id copies out work s)
 
 -- each call gets the session and the history as the one before left them
 unfoldable pub AllAgree : Needs → List Call → Session → History → Type 0

@@ -1,7 +1,7 @@
 -- docs/RULES.md, section 6: for each call the refusals in the order of 6.1, of which the first that applies is told. The ranges are those of 3.1 and 3.2.
 use Prim.Native.Nat.{ℕ, _+_, _*_}
 use mathlib.Core.Path.{_≡_}
-use mathlib.Core.List.{List, [], _∷_}
+use mathlib.Core.List.{List, [], _∷_, _++_}
 use mathlib.Core.Bool.{Bool, true, false, not, _&&_, _||_}
 use lib.Dec.{eqb, leb, ltb}
 use Rattle.lists.specs.Lists.{pick, holds}
@@ -26,9 +26,16 @@ mostBytes = 16777216
 abbrev pub mostOpen : ℕ
 mostOpen = 64
 
--- how many words the record store and the work memory may need at the most
+-- the copies that a pack may be allowed
+abbrev pub mostCopies : ℕ
+mostCopies = 1024
+
+-- how many words the record store may need at the most, and with so many copies the work memory
 abbrev pub mostNeed : ℕ → ℕ → ℕ
 mostNeed objects links = 4096 + 64 * (objects + links)
+
+abbrev pub mostWorkNeed : ℕ → ℕ → ℕ → ℕ
+mostWorkNeed objects links copies = mostNeed objects links + 64 * (copies * (links + 1))
 
 -- what a start chooses: the object limit (the piece limit), the link limit, and the byte store by its length
 pub record Limits : Type 0 where
@@ -93,6 +100,9 @@ badField s = when (not (slotOk s)) Refusal.BadField
 abbrev pub linksFull : Limits → Tally → Test
 linksFull m t = when (leb (m .links) (t .links)) Refusal.LinksFull
 
+abbrev pub copiesBeyond : ℕ → Test
+copiesBeyond copies = when (ltb mostCopies copies) Refusal.OutOfRange
+
 -- `work` words are lent, and `need` are needed
 abbrev pub workShort : ℕ → ℕ → Test
 workShort work need = when (ltb work need) Refusal.OutOfRange
@@ -144,9 +154,15 @@ dropTests sound t = unsound sound ∷ nothingOpen t ∷ []
 abbrev pub tallyTests : Bool → List Test
 tallyTests sound = unsound sound ∷ []
 
-abbrev pub packTests : Bool → Tally → ℕ → ℕ → ℕ → ℕ → ℕ → Outcome → List Test
-packTests sound t id work need out length outcome =
-    unsound sound ∷ workShort work need ∷ objectOpen t ∷ notClosed t id ∷ outputShort out length ∷ overflows outcome
+-- `length` is that of the outcome's table
+abbrev pub packTests : Bool → Tally → ℕ → ℕ → ℕ → ℕ → ℕ → ℕ → Outcome → List Test
+packTests sound t id copies work need out length outcome =
+    unsound sound
+    ∷ copiesBeyond copies
+    ∷ workShort work need
+    ∷ objectOpen t
+    ∷ notClosed t id
+    ∷ (overflows outcome ++ (outputShort out length ∷ []))
 
 -- ---- the verdict on each
 
@@ -171,5 +187,5 @@ judgeDrop sound t = verdict (dropTests sound t)
 abbrev pub judgeTally : Bool → Verdict
 judgeTally sound = verdict (tallyTests sound)
 
-abbrev pub judgePack : Bool → Tally → ℕ → ℕ → ℕ → ℕ → ℕ → Outcome → Verdict
-judgePack sound t id work need out length outcome = verdict (packTests sound t id work need out length outcome)
+abbrev pub judgePack : Bool → Tally → ℕ → ℕ → ℕ → ℕ → ℕ → ℕ → Outcome → Verdict
+judgePack sound t id copies work need out length outcome = verdict (packTests sound t id copies work need out length outcome)

@@ -9,6 +9,7 @@ pub mod Space
 pub mod Table
 pub mod Reading
 pub mod Laid
+pub mod Copies
 pub mod Judge
 pub mod Told
 pub mod Session
@@ -16,3 +17,4 @@ pub mod History
 pub mod Cases
 pub mod OrderCases
 pub mod SpaceCases
+pub mod CopyCases

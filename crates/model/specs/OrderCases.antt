@@ -2,13 +2,14 @@
 use Prim.Native.Nat.{ℕ}
 use mathlib.Core.List.{List, [], _∷_}
 use mathlib.Core.Bool.{Bool, true, _&&_}
-use lib.ListN.{getD}
+use lib.ListN.{length, getD}
 use lib.Dec.{eqb}
 use Rattle.lists.specs.Lists.{sameList}
 use Rattle.model.specs.Object.{Link}
 use Rattle.model.specs.Graph.{Graph}
 use Rattle.model.specs.Distance.{distance, kahnOrder, distanceOrder}
-use Rattle.model.specs.Table.{Outcome, placed, overflow, arranged}
+use Rattle.model.specs.Table.{Outcome, placed, overflow}
+use Rattle.model.specs.Copies.{arranged}
 
 -- sizes and links by id; the first two orders from the root; what does not fit in the last one, where none fits
 pub record Case : Type 0 where
@@ -28,7 +29,7 @@ unfoldable pub right : Case → Bool
 right c =
     let g : Graph = record { size = λ i. getD (c .sizes) i 0; links = λ i. getD (c .links) i [] } in
     sameList eqb (kahnOrder g (c .root)) (c .kahn)
-    && (sameList eqb (distanceOrder g (c .root)) (c .distance) && sameList eqb (unfitIn (arranged g (c .root))) (c .unfit))
+    && (sameList eqb (distanceOrder g (c .root)) (c .distance) && sameList eqb (unfitIn (arranged 0 g (length (c .sizes)) (c .root) .outcome)) (c .unfit))
 
 unfoldable pub allRight : List Case → Bool
 allRight [] = true

@@ -8,14 +8,14 @@ use Rattle.lists.specs.Lists.{pick, total, firstThat}
 use Rattle.answer.specs.declared.tally.Tally.{Tally}
 use Rattle.model.specs.Object.{Object, noObject, objectAt, sizeOf, linkCount, withBytes, newSlot, withLink, hopelessObject, sameObject}
 use Rattle.model.specs.Graph.{graphOf}
-use Rattle.model.specs.Table.{Outcome, placed, overflow, arranged, tableLength, tableOf}
+use Rattle.model.specs.Copies.{Arrangement, arranged, lengthOf, tableBy}
 use Rattle.model.specs.Judge.{Limits, Verdict, accepted, refused, judgeStart, judgeOpen, judgePut, judgeLink, judgeClose, judgeDrop, judgeTally, judgePack}
 use Rattle.model.specs.Told.{Told, done, doneClose, donePack, refusal}
 
--- how many words the record store and the work memory need for given limits
+-- how many words the record store needs for given limits, and with so many copies allowed the work memory
 pub record Needs : Type 0 where
   pub records : Limits → ℕ
-  pub work : Limits → ℕ
+  pub work : Limits → ℕ → ℕ
 
 -- the open objects, the innermost first; the closed ones by id
 pub record Session : Type 0 where
@@ -111,29 +111,30 @@ pub record PackLeft : Type 0 where
 abbrev pub content : Session → ℕ → List ℕ
 content s i = objectAt (s .closed) i .bytes
 
-abbrev pub tableIn : Session → Outcome → List ℕ
-tableIn s (placed o) = tableOf (graphOf (s .closed)) (content s) o
-tableIn s (overflow u) = []
+-- how the look for an order ends
+abbrev pub arrangedIn : Session → ℕ → ℕ → Arrangement
+arrangedIn s id copies = arranged copies (graphOf (s .closed)) (length (s .closed)) id
+
+abbrev pub tableIn : Session → Arrangement → List ℕ
+tableIn s c = tableBy (content s) (c .grown) (c .outcome)
 
 abbrev pub settlePack : Verdict → Session → PackLeft → PackLeft
 settlePack accepted s p = p
 settlePack (refused why) s p = record { told = refusal why (tallyOf s); table = [] }
 
--- the root's id, and how much output and work memory is lent
-unfoldable pub pack : Needs → ℕ → ℕ → ℕ → Session → PackLeft
-pack n id out work s =
-    let g = graphOf (s .closed) in
-    let outcome = arranged g id in
-    let size = tableLength g id in
-    settlePack (judgePack true (tallyOf s) id work (n .work (s .limits)) out size outcome) s
-    (record { told = donePack size (tallyOf s); table = tableIn s outcome })
+-- the root's id, how many copies are allowed, and how much output and work memory is lent
+unfoldable pub pack : Needs → ℕ → ℕ → ℕ → ℕ → Session → PackLeft
+pack n id copies out work s =
+    let c = arrangedIn s id copies in
+    settlePack (judgePack true (tallyOf s) id copies work (n .work (s .limits) copies) out (lengthOf c) (c .outcome)) s
+    (record { told = donePack (lengthOf c) (length (c .grown .copies)) (tallyOf s); table = tableIn s c })
 
 -- ---- the eight calls
 
 pub data Call : Type 0 where
   sessionCall : SessionCall → Call
-  packCall : ℕ → ℕ → ℕ → Call
+  packCall : ℕ → ℕ → ℕ → ℕ → Call
 
 unfoldable pub afterCall : Needs → Call → Session → Session
 afterCall n (sessionCall c) s = step n c s .after
-afterCall n (packCall id out work) s = s
+afterCall n (packCall id copies out work) s = s

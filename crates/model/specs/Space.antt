@@ -10,8 +10,7 @@ use Rattle.lists.specs.Lists.{pick, firstThat, Exactly}
 use Rattle.model.specs.Object.{Link, widest}
 use Rattle.model.specs.Bag.{count}
 use Rattle.model.specs.Graph.{Graph, ParentsFirst, Rooted}
-use Rattle.model.specs.Order.{orderBy}
-use Rattle.model.specs.Distance.{In, distance, distanceOrder}
+use Rattle.model.specs.Distance.{In, distanceOrder}
 use Rattle.model.specs.Labels.{join, numbers}
 
 -- only width 4 parts spaces
@@ -116,12 +115,16 @@ spaceOf g o root x = getD (spaces g o root) (spot o x) 0
 abbrev pub spaceWeight : ℕ
 spaceWeight = 4294967296
 
--- by the distance and the number of the space, which goes by the distance order
-unfoldable pub spaceOrder : Graph → ℕ → List ℕ
-spaceOrder g root =
+-- the number of each object's space, which goes by the distance order
+unfoldable pub spaceIn : Graph → ℕ → ℕ → ℕ
+spaceIn g root =
     let o = distanceOrder g root in
     let ns = spaces g o root in
-    orderBy (λ i. distance g root i + getD ns (spot o i) 0 * spaceWeight) g root
+    λ i. getD ns (spot o i) 0
+
+-- by the distance and the number of the space
+abbrev pub spaceKey : (ℕ → ℕ) → (ℕ → ℕ) → ℕ → ℕ
+spaceKey distance space i = distance i + space i * spaceWeight
 
 -- ---- what the laws of spaces ask of an order
 

@@ -2,14 +2,15 @@
 use Prim.Native.Nat.{ℕ}
 use mathlib.Core.List.{List, [], _∷_}
 use mathlib.Core.Bool.{Bool, true, _&&_}
-use lib.ListN.{getD}
+use lib.ListN.{length, getD}
 use lib.Dec.{eqb}
 use Rattle.lists.specs.Lists.{sameList}
 use Rattle.model.specs.Object.{Link}
 use Rattle.model.specs.Graph.{Graph}
 use Rattle.model.specs.Distance.{distanceOrder}
-use Rattle.model.specs.Table.{Outcome, placed, overflow, arranged}
-use Rattle.model.specs.Space.{spaces, spaceOrder}
+use Rattle.model.specs.Table.{Outcome, placed, overflow}
+use Rattle.model.specs.Copies.{ungrown, spaceOrder, arranged}
+use Rattle.model.specs.Space.{spaces, spaceIn}
 use Rattle.model.specs.OrderCases.{unfitIn, to}
 
 -- sizes and links by id; the distance order from the root, the space of each object in it, the order by spaces; the first of the three orders that fits,
@@ -31,11 +32,13 @@ chosenIn (overflow u) = []
 unfoldable pub right : Case → Bool
 right c =
     let g : Graph = record { size = λ i. getD (c .sizes) i 0; links = λ i. getD (c .links) i [] } in
+    let n = length (c .sizes) in
     let o = distanceOrder g (c .root) in
+    let u = arranged 0 g n (c .root) .outcome in
     sameList eqb o (c .distance)
     && (sameList eqb (spaces g o (c .root)) (c .spaces)
-    && (sameList eqb (spaceOrder g (c .root)) (c .third)
-    && (sameList eqb (chosenIn (arranged g (c .root))) (c .chosen) && sameList eqb (unfitIn (arranged g (c .root))) (c .unfit))))
+    && (sameList eqb (spaceOrder (spaceIn g (c .root)) (c .root) (ungrown g n (c .root))) (c .third)
+    && (sameList eqb (chosenIn u) (c .chosen) && sameList eqb (unfitIn u) (c .unfit))))
 
 unfoldable pub allRight : List Case → Bool
 allRight [] = true

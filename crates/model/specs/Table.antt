@@ -1,4 +1,4 @@
--- docs/RULES.md, 7.5 to 7.9: places, offsets, what does not fit, the first order that fits, and the table's bytes.
+-- docs/RULES.md, 7.5 to 7.8: places, offsets, what does not fit, and the table's bytes.
 use Prim.Native.Nat.{ℕ, _+_, _-_, _≤_}
 use mathlib.Core.Path.{_≡_}
 use mathlib.Core.List.{List, [], _∷_, _++_}
@@ -9,8 +9,6 @@ use Rattle.answer.specs.declared.Overflow.{Overflow}
 use Rattle.big_endian.specs.BigEndian.{fits, bigEndian}
 use Rattle.model.specs.Object.{Slot, Link}
 use Rattle.model.specs.Graph.{Graph, reached}
-use Rattle.model.specs.Distance.{kahnOrder, distanceOrder}
-use Rattle.model.specs.Space.{spaceOrder}
 
 -- the sum of f over those before x in an order
 unfoldable pub before : (ℕ → ℕ) → List ℕ → ℕ → ℕ
@@ -40,50 +38,15 @@ unfitFrom g place (x ∷ o) = unfitLinks place x (g .links x) ++ unfitFrom g pla
 abbrev pub unfit : Graph → List ℕ → List Overflow
 unfit g o = unfitFrom g (placeOf g o) o
 
--- ---- the first order in which every link fits; else the last one's first overflow
+-- ---- what comes of the orders: one in which every link fits, or the last one's first overflow
 
 pub data Outcome : Type 0 where
   placed : List ℕ → Outcome
   overflow : Overflow → Outcome
 
-unfoldable pub tryOrder : List Overflow → List ℕ → Outcome → Outcome
-tryOrder [] o next = placed o
-tryOrder (u ∷ us) o next = next
-
-unfoldable pub tryLast : List Overflow → List ℕ → Outcome
-tryLast [] o = placed o
-tryLast (u ∷ us) o = overflow u
-
--- an order, and those to try after it
-unfoldable pub firstFit : Graph → List ℕ → List (List ℕ) → Outcome
-firstFit g o [] = tryLast (unfit g o) o
-firstFit g o (p ∷ ps) = tryOrder (unfit g o) o (firstFit g p ps)
-
--- the orders that a pack tries after the kahn order, in turn
-abbrev pub laterOrders : Graph → ℕ → List (List ℕ)
-laterOrders g root = distanceOrder g root ∷ spaceOrder g root ∷ []
-
-unfoldable pub arranged : Graph → ℕ → Outcome
-arranged g root = firstFit g (kahnOrder g root) (laterOrders g root)
-
--- ---- the same as facts about a list of orders
-
-abbrev pub ordersOf : Graph → ℕ → List (List ℕ)
-ordersOf g root = kahnOrder g root ∷ laterOrders g root
-
--- o is the first of the list in which every link fits
-pub data FirstFit (g : Graph) (o : List ℕ) : List (List ℕ) → Type 0 where
-  here : {p : List ℕ} {os : List (List ℕ)} → o ≡ p → unfit g o ≡ [] → FirstFit g o (p ∷ os)
-  later : {p : List ℕ} {os : List (List ℕ)} → (unfit g p ≡ [] → ⊥) → FirstFit g o os → FirstFit g o (p ∷ os)
-
--- in none of the list every link fits, and v is the first that does not in the last one
-pub data NoneFits (g : Graph) (v : Overflow) : List (List ℕ) → Type 0 where
-  last : {p : List ℕ} {us : List Overflow} → unfit g p ≡ v ∷ us → NoneFits g v (p ∷ [])
-  earlier : {p : List ℕ} {os : List (List ℕ)} → (unfit g p ≡ [] → ⊥) → NoneFits g v os → NoneFits g v (p ∷ os)
-
 -- ---- the table
 
--- known before any order
+-- without copies, known before any order
 unfoldable pub tableLength : Graph → ℕ → ℕ
 tableLength g root = total (g .size) (reached g root)
 

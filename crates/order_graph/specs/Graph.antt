@@ -13,7 +13,7 @@ use Rattle.model.specs.Graph.{Graph, waits, Rooted}
 use Rattle.model.specs.Distance.{weight}
 use Rattle.work.specs.Areas.{Apart}
 use Rattle.work.specs.Packed.{packedWords, packedAt}
-use Rattle.work.specs.Views.{incomingIn}
+use Rattle.work.specs.Views.{incomingIn, originIn}
 use Rattle.work.specs.declared.Areas.{Areas}
 use Rattle.order_graph.specs.declared.Field.{Field}
 
@@ -44,7 +44,7 @@ graphIn a n f = record { size = λ i. pick (ltb i n) (getD f i 0) 0; links = λ 
 abbrev pub graphOn : Areas → ℕ → List ℕ → Graph
 graphOn a n w = graphIn a n (take (a .keys) w)
 
--- the id under which a node is told
+-- the id of object i
 abbrev pub objectOf : ℕ → ObjectId
 objectOf i = record { 0 = i }
 
@@ -90,6 +90,31 @@ pub record Stands (a : Areas) (n : ℕ) (w : List ℕ) : Type 0 where
 pub record Counted (a : Areas) (n root : ℕ) (nodes w : List ℕ) : Type 0 where
   pub rooted : Rooted (graphOn a n w) nodes root
   pub incoming : (c : ℕ) → getD (incomingIn a w) c 0 ≡ waits (graphOn a n w) nodes c
+
+-- the number of a node's first link
+abbrev pub firstLink : Areas → List ℕ → ℕ → ℕ
+firstLink a f i = getD f (a .firsts + i) 0
+
+-- the links of every node are among the first ones
+abbrev pub Taken : Areas → ℕ → ℕ → List ℕ → Type 0
+Taken a n links w = (i : ℕ) → i < n → firstLink a (take (a .keys) w) i + linkCount a (take (a .keys) w) i ≤ links
+
+-- no two nodes have a link in common
+abbrev pub Parted : Areas → ℕ → List ℕ → Type 0
+Parted a n w =
+    (i j s t : ℕ) → i < n → j < n → s < linkCount a (take (a .keys) w) i → t < linkCount a (take (a .keys) w) j
+    → firstLink a (take (a .keys) w) i + s ≡ firstLink a (take (a .keys) w) j + t → i ≡ j
+
+-- every node's object is one of the first n, and each copy's has a word
+pub record Owned (a : Areas) (n nodes : ℕ) (w : List ℕ) : Type 0 where
+  pub room : nodes ≤ n + a .copies
+  pub object : (i : ℕ) → i < nodes → originIn a n w i < n
+
+-- what is asked to read the object of node i
+pub record HasOrigin (a : Areas) (n i : ℕ) (w : List ℕ) : Type 0 where
+  pub apart : Apart a
+  pub long : a .end ≤ length w
+  pub room : i < n + a .copies
 
 -- ---- what is asked to read node i, and link t of it
 

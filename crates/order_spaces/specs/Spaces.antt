@@ -1,5 +1,5 @@
--- docs/RULES.md, 7.10 and 7.11, in the work memory: the number of each node's space, over an order of r nodes that stands there. Between two orders three
--- of an order's areas are free: each node's position, the boss of each position, and the number of each node's space.
+-- docs/RULES.md, 7.10 and 7.11, in the work memory: the number of each node's space, over an order of r nodes that stands there. Between two orders two
+-- of an order's areas are free: each node's position, and the boss of each position.
 use Prim.Native.Nat.{ℕ, _+_, _≤_, _<_}
 use mathlib.Core.Path.{_≡_}
 use mathlib.Core.List.{List, [], _∷_, map}
@@ -92,23 +92,23 @@ pub record Numbering (a : Areas) (n r : ℕ) (w : List ℕ) : Type 0 where
 -- ---- what the steps do
 
 pub record SpottedAlong (a : Areas) (r : ℕ) (w w′ : List ℕ) : Type 0 where
-  pub kept : Kept (a .spots) (a .spaces) w w′
+  pub kept : Kept (a .spots) (a .waiting) w w′
   pub spots : spotsIn a w′ ≡ spotsFrom (orderIn a r w) 0 (spotsIn a w)
 
 pub record SpotsSet (a : Areas) (r : ℕ) (w w′ : List ℕ) : Type 0 where
-  pub kept : Kept (a .spots) (a .spaces) w w′
+  pub kept : Kept (a .spots) (a .waiting) w w′
   pub spots : spotsIn a w′ ≡ spotsFrom (orderIn a r w) 0 (replicate (a .nodes) 0)
 
 pub record ClearedLinks (a : Areas) (n i : ℕ) (w w′ : List ℕ) : Type 0 where
-  pub kept : Kept (a .spots) (a .spaces) w w′
+  pub kept : Kept (a .spots) (a .waiting) w w′
   pub spots : spotsIn a w′ ≡ cleared (narrowKids (graphOn a n w) i) (spotsIn a w)
 
 pub record ClearedAlong (a : Areas) (n r : ℕ) (w w′ : List ℕ) : Type 0 where
-  pub kept : Kept (a .spots) (a .spaces) w w′
+  pub kept : Kept (a .spots) (a .waiting) w w′
   pub spots : spotsIn a w′ ≡ clearedAll (graphOn a n w) (orderIn a r w) (spotsIn a w)
 
 pub record Marked (a : Areas) (n r : ℕ) (w w′ : List ℕ) : Type 0 where
-  pub kept : Kept (a .spots) (a .spaces) w w′
+  pub kept : Kept (a .spots) (a .waiting) w w′
   pub spots : spotsIn a w′ ≡ clearedAll (graphOn a n w) (orderIn a r w) (spotsFrom (orderIn a r w) 0 (replicate (a .nodes) 0))
 
 pub record BossesSet (a : Areas) (r : ℕ) (w w′ : List ℕ) : Type 0 where
@@ -137,7 +137,7 @@ pub record SetsJoined (a : Areas) (n r : ℕ) (w w′ : List ℕ) : Type 0 where
   pub labels : roots (bossesIn a r w′) ≡ tiedAll (graphOn a n w) (spotsIn a w) (orderIn a r w) (roots (ownBosses (spotsIn a w) (orderIn a r w)))
 
 pub record NumberedAlong (a : Areas) (r : ℕ) (w w′ : List ℕ) : Type 0 where
-  pub kept : Kept (a .spaces) (a .bosses) w w′
+  pub kept : Kept (a .spaces) (a .origins) w w′
   pub small : ceiling (spacesIn a w′) ≤ r
   pub numbers : (t : ℕ) → t < r → getD (spacesIn a w′) (getD (orderIn a r w) t 0) 0 ≡ getD (numbers (roots (bossesIn a r w))) t 0
 
@@ -150,8 +150,10 @@ pub record Spacing (a : Areas) (n r root : ℕ) (w : List ℕ) : Type 0 where
   pub ids : ceiling (orderIn a r w) ≤ n
   pub sorted : Sorted (graphOn a n w) (orderIn a r w) root
 
--- the number of each node's space, and no word there more than there are nodes; the order stands
+-- the number of each node's space, and no word there more than there are nodes; the order stands, and all behind it but those numbers
 pub record Spaced (a : Areas) (n r root : ℕ) (w w′ : List ℕ) : Type 0 where
-  pub kept : Kept (a .spots) (a .order) w w′
+  pub between : List ℕ
+  pub kept : Kept (a .spots) (a .order) w between
+  pub only : Kept (a .spaces) (a .origins) between w′
   pub small : ceiling (spacesIn a w′) ≤ r
   pub numbers : (x : ℕ) → 0 < count x (orderIn a r w) → getD (spacesIn a w′) x 0 ≡ spaceOf (graphOn a n w) (orderIn a r w) root x

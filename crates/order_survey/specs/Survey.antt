@@ -69,6 +69,7 @@ pub record LineFound (a : Areas) (n root r : ℕ) (s : Lined) (w w′ : List ℕ
   pub few : r ≤ a .nodes
   pub ids : ceiling (lineIn a r w′) ≤ n
   pub found : linedOf a r w′ ≡ lined (graphOn a n w) (root + 1) s
+  pub small : ceiling (incomingIn a w′) ≤ ceiling (s .incoming) + mostNodes * mostNodeLinks
 
 -- the links of node i, whose distance is d, taken up in the distances
 pub record Lowering (a : Areas) (n i d : ℕ) (w : List ℕ) : Type 0 where
@@ -76,7 +77,7 @@ pub record Lowering (a : Areas) (n i d : ℕ) (w : List ℕ) : Type 0 where
   pub near : d ≤ farAway
 
 pub record Lowered (a : Areas) (n i d : ℕ) (w w′ : List ℕ) : Type 0 where
-  pub kept : Kept (a .distances) (a .end) w w′
+  pub kept : Kept (a .distances) (a .spaces) w w′
   pub distances : distancesIn a w′ ≡ relax farAway (weight (graphOn a n w)) d (graphOn a n w .links i) (distancesIn a w)
   pub bound : ceiling (distancesIn a w′) ≤ ceiling (distancesIn a w)
 
@@ -87,12 +88,12 @@ pub record Along (a : Areas) (n r : ℕ) (w : List ℕ) : Type 0 where
   pub ids : ceiling (lineIn a r w) ≤ n
 
 pub record LoweredAlong (a : Areas) (n r : ℕ) (w w′ : List ℕ) : Type 0 where
-  pub kept : Kept (a .distances) (a .end) w w′
+  pub kept : Kept (a .distances) (a .spaces) w w′
   pub distances : distancesIn a w′ ≡ relaxAll farAway (weight (graphOn a n w)) (graphOn a n w) (lineIn a r w) (distancesIn a w)
   pub near : ceiling (distancesIn a w′) ≤ farAway + 1
 
 pub record DistancesSet (a : Areas) (n root r : ℕ) (w w′ : List ℕ) : Type 0 where
-  pub kept : Kept (a .distances) (a .end) w w′
+  pub kept : Kept (a .distances) (a .spaces) w w′
   pub distances : distancesIn a w′ ≡ distancesBy farAway (weight (graphOn a n w)) (graphOn a n w) (lineIn a r w) (a .nodes) root
   pub near : ceiling (distancesIn a w′) ≤ farAway + 1
 
@@ -107,10 +108,15 @@ pub record Surveyed (a : Areas) (n root : ℕ) (nodes w : List ℕ) : Type 0 whe
   pub low : rank root < mostNodes
   pub counted : Counted a n root nodes w
 
+-- no count is past what all fields of all nodes come to
+abbrev pub FewIncoming : Areas → List ℕ → Type 0
+FewIncoming a w = ceiling (incomingIn a w) ≤ mostNodes * mostNodeLinks + 2
+
 pub record Measured (a : Areas) (n root length : ℕ) (w w′ : List ℕ) : Type 0 where
   pub kept : Kept (a .line) (a .distances) w w′
   pub surveyed : Surveyed a n root (reached (graphOn a n w) root) w′
   pub size : length ≡ tableLength (graphOn a n w) root
+  pub small : FewIncoming a w′
 
 -- ---- the distances, along any line of nodes from the root that has parents before their children
 
@@ -126,5 +132,5 @@ pub record Distanced (a : Areas) (n root : ℕ) (nodes w : List ℕ) : Type 0 wh
   pub near : ceiling (distancesIn a w) ≤ farAway + 1
 
 pub record DistancesFound (a : Areas) (n root r : ℕ) (w w′ : List ℕ) : Type 0 where
-  pub kept : Kept (a .distances) (a .end) w w′
+  pub kept : Kept (a .distances) (a .spaces) w w′
   pub distanced : Distanced a n root (lineIn a r w) w′

@@ -7,7 +7,7 @@ use lib.ListN.{length, getD, take}
 use lib.Dec.{eqb, ltb, leb}
 use Rattle.model.specs.Object.{widthOk}
 use Rattle.model.specs.Graph.{Acyclic}
-use Rattle.work.specs.Areas.{areasOf, workNeed, graphWords}
+use Rattle.work.specs.Areas.{areasOf, graphWords}
 use Rattle.work.specs.Packed.{packedWords, mostHalf}
 use Rattle.work.specs.declared.Areas.{Areas}
 use Rattle.order_graph.specs.Graph.{graphOn, linkOf, linksAt, linkCount, mostNodes, mostNodeLinks, mostSize, Stands}
@@ -39,7 +39,7 @@ tidyNode a f i =
 -- p nodes and k links, whose words are the whole list, with room for all areas in the work memory
 abbrev pub given : ℕ → ℕ → List ℕ → Bool
 given p k f =
-    ltb 0 p && (leb p mostNodes && (eqb (length f) (graphWords p k) && (leb (workNeed p k) space && allBelow p (tidyNode (areasOf p k) f))))
+    ltb 0 p && (leb p mostNodes && (eqb (length f) (graphWords p k) && (leb (areasOf p k 0 .end) space && allBelow p (tidyNode (areasOf p k 0) f))))
 
 -- the words f stand in the memory from `at` on, and what was in front of them still does
 pub record Loaded (f : List ℕ) (at : ℕ) (w w′ : List ℕ) : Type 0 where

@@ -5,6 +5,7 @@ use mathlib.Core.List.{List}
 use lib.ListN.{length, getD}
 use Rattle.regions.specs.Region.{Kept}
 use Rattle.model.specs.Graph.{graphOf, Acyclic}
+use Rattle.model.specs.Judge.{mostCopies}
 use Rattle.layout.specs.Words.{objectLimit, linkLimit, linksAt}
 use Rattle.layout.specs.Spans.{closedSpan}
 use Rattle.layout.specs.Decode.{decode}
@@ -13,19 +14,22 @@ use Rattle.layout.specs.declared.state.State.{State}
 use Rattle.work.specs.Areas.{Apart}
 use Rattle.work.specs.Packed.{packedWords, Halves}
 use Rattle.work.specs.declared.Areas.{Areas}
-use Rattle.order_graph.specs.Graph.{graphOn, Stands}
+use Rattle.order_graph.specs.Graph.{graphOn, Stands, Taken, Parted}
 
--- areas for as many objects and links as the session's limits allow
+-- areas for as many objects and links as the session's limits allow, and for copies
 pub record AreasFor (w : List ℕ) (a : Areas) : Type 0 where
   pub apart : Apart a
-  pub nodes : a .nodes ≡ objectLimit w
-  pub words : a .keys ≡ a .links + linkLimit w * packedWords
+  pub few : a .copies ≤ mostCopies
+  pub nodes : a .nodes ≡ objectLimit w + a .copies
+  pub words : a .keys ≡ a .links + (linkLimit w + a .copies * linkLimit w) * packedWords
 
 -- the closed objects' graph, of n nodes, stands in front of the work memory m
 pub record Standing (b w : List ℕ) (a : Areas) (n : ℕ) (m : List ℕ) : Type 0 where
   pub graph : Stands a n m
   pub same : graphOn a n m ≡ graphOf (decode b w .closed)
   pub falls : Acyclic (graphOn a n m)
+  pub taken : Taken a n (linkLimit w) m
+  pub parted : Parted a n m
 
 -- what the copy asks, of the record store alone
 pub record Copyable (w : List ℕ) (s : State) (a : Areas) (m : List ℕ) : Type 0 where

@@ -24,6 +24,11 @@ pub record Filling (a n v i : ℕ) (w₀ w : List ℕ) : Type 0 where
   pub kept : Kept a (a + n) w₀ w
   pub done : region a i w ≡ replicate i v
 
+-- the `n` words from `from` on lie apart from those from `to` on
+pub data Away (from to n : ℕ) : Type 0 where
+  before : to + n ≤ from → Away from to n
+  behind : from + n ≤ to → Away from to n
+
 -- `n` words from `from` on are being copied to `to` and on, `i` of them are
 pub record Copying (from to n i : ℕ) (w₀ w : List ℕ) : Type 0 where
   pub some : i ≤ n

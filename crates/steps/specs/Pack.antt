@@ -8,12 +8,12 @@ use lib.Dec.{eqb}
 use Rattle.lists.specs.Lists.{pick, over}
 use Rattle.answer.specs.Number.{number, beside}
 use Rattle.answer.specs.declared.Refusal.{Refusal}
+use Rattle.answer.specs.declared.PackedTable.{PackedTable}
 use Rattle.answer.specs.declared.Packing.{Packing}
 use Rattle.answer.specs.declared.Packing.the-variants.{Done, Refused}
-use Rattle.model.specs.Graph.{graphOf}
-use Rattle.model.specs.Table.{Outcome, arranged, tableLength}
+use Rattle.model.specs.Copies.{Arrangement, lengthOf}
 use Rattle.model.specs.Judge.{Verdict, accepted, refused, judgePack}
-use Rattle.model.specs.Session.{tableIn}
+use Rattle.model.specs.Session.{arrangedIn, tableIn}
 use Rattle.layout.specs.Words.{objectLimit, linkLimit}
 use Rattle.layout.specs.Sound.{sound}
 use Rattle.layout.specs.Decode.{decode}
@@ -28,27 +28,29 @@ pub record PackOut : Type 0 where
 abbrev pub packed : Packing → List ℕ → List ℕ → PackOut
 packed a out work = record { answer = a; out = out; work = work }
 
--- the needed work memory is zero
-abbrev pub cleared : List ℕ → List ℕ → List ℕ
-cleared w work = over 0 (replicate (workNeed (objectLimit w) (linkLimit w)) 0) work
+-- the work memory that is needed with so many copies allowed is zero
+abbrev pub cleared : ℕ → List ℕ → List ℕ → List ℕ
+cleared copies w work = over 0 (replicate (workNeed (objectLimit w) (linkLimit w) copies) 0) work
 
 -- of the refusals only 10 and 11 clear it
 abbrev pub clears : Refusal → Bool
 clears why = eqb (number why) 10 || eqb (number why) 11
 
-abbrev pub settlePackStep : Verdict → List ℕ → List ℕ → List ℕ → List ℕ → PackOut → PackOut
-settlePackStep accepted b w out work done = done
-settlePackStep (refused why) b w out work done = packed (Refused why (beside why (tallyIn b w))) out (pick (clears why) (cleared w work) work)
+abbrev pub settlePackStep : Verdict → ℕ → List ℕ → List ℕ → List ℕ → List ℕ → PackOut → PackOut
+settlePackStep accepted copies b w out work done = done
+settlePackStep (refused why) copies b w out work done = packed (Refused why (beside why (tallyIn b w))) out (pick (clears why) (cleared copies w work) work)
 
--- by a verdict, on a table of this size and this outcome of the orders
-abbrev pub packBy : Verdict → ℕ → Outcome → List ℕ → List ℕ → List ℕ → List ℕ → PackOut
-packBy v size outcome b w out work =
-    settlePackStep v b w out work (packed (Done size (tallyIn b w)) (over 0 (tableIn (decode b w) outcome) out) (cleared w work))
+-- the table of an arrangement: its length, and how many copies are in it
+abbrev pub tableMade : Arrangement → PackedTable
+tableMade c = record { length = lengthOf c; copies = length (c .grown .copies) }
 
-unfoldable pub packStep : ℕ → List ℕ → List ℕ → List ℕ → List ℕ → PackOut
-packStep id b w out work =
-    let g = graphOf (decode b w .closed) in
-    let size = tableLength g id in
-    let outcome = arranged g id in
-    let need = workNeed (objectLimit w) (linkLimit w) in
-    packBy (judgePack (sound b w) (tallyIn b w) id (length work) need (length out) size outcome) size outcome b w out work
+-- by a verdict, on this arrangement
+abbrev pub packBy : Verdict → Arrangement → ℕ → List ℕ → List ℕ → List ℕ → List ℕ → PackOut
+packBy v c copies b w out work =
+    settlePackStep v copies b w out work (packed (Done (tableMade c) (tallyIn b w)) (over 0 (tableIn (decode b w) c) out) (cleared copies w work))
+
+unfoldable pub packStep : ℕ → ℕ → List ℕ → List ℕ → List ℕ → List ℕ → PackOut
+packStep id copies b w out work =
+    let c = arrangedIn (decode b w) id copies in
+    let need = workNeed (objectLimit w) (linkLimit w) copies in
+    packBy (judgePack (sound b w) (tallyIn b w) id copies (length work) need (length out) (lengthOf c) (c .outcome)) c copies b w out work

@@ -53,11 +53,11 @@ stepOn close s = leftByClose (closeStep (s .bytes) (s .words))
 stepOn drop s = leftBy (dropStep (s .bytes) (s .words))
 stepOn tally s = leftBy (tallyStep (s .bytes) (s .words))
 
--- ---- all eight: a pack with its root and with what the output and the work memory hold
+-- ---- all eight: a pack with its root, the copies allowed, and what the output and the work memory hold
 
 pub data LentCall : Type 0 where
   onStores : StoreCall → LentCall
-  pack : ℕ → List ℕ → List ℕ → LentCall
+  pack : ℕ → ℕ → List ℕ → List ℕ → LentCall
 
 -- what a call tells, and what it leaves in all lent memory
 pub record LentLeft : Type 0 where
@@ -79,7 +79,7 @@ storesLeft l = record { told = l .told; stores = l .stores; out = []; work = [] 
 
 unfoldable pub lentStep : LentCall → Stores → LentLeft
 lentStep (onStores c) s = storesLeft (stepOn c s)
-lentStep (pack id out work) s = leftByPack s (packStep id (s .bytes) (s .words) out work)
+lentStep (pack id copies out work) s = leftByPack s (packStep id copies (s .bytes) (s .words) out work)
 
 -- ---- the same calls on the abstract session: of the two stores only how many bytes and words they have
 
@@ -93,7 +93,7 @@ asCall bytes words drop = dropCall
 asCall bytes words tally = tallyCall
 
 -- the record store's need is the layout's; the work memory's plays no part in these calls
-abbrev pub needsWith : (Limits → ℕ) → Needs
+abbrev pub needsWith : (Limits → ℕ → ℕ) → Needs
 needsWith work = record { records = λ m. need (m .objects) (m .links); work = work }
 
 -- the stores are sound and hold this session

@@ -2,7 +2,8 @@
 use Prim.Native.Nat.{ℕ, _+_, _*_, _≤_}
 use mathlib.Core.Path.{_≡_}
 use native.Mathlib.Omega.{arith}
-use Rattle.model.specs.Judge.{mostNeed}
+use native.Mathlib.Nat.{mul-add, mul-comm}
+use Rattle.model.specs.Judge.{mostWorkNeed}
 use Rattle.work.specs.Packed.{packedWords}
 use Rattle.work.specs.declared.Areas.{Areas}
 
@@ -10,20 +11,20 @@ use Rattle.work.specs.declared.Areas.{Areas}
 abbrev pub graphWords : ℕ → ℕ → ℕ
 graphWords nodes links = nodes * 3 + links * packedWords
 
--- behind it seven areas of a word for each node. Some have several names, since one array is done with before another begins there: the line
--- and the order; the nodes that became ready and the places; and between two orders, where the spaces are found, three of an order's
-abbrev pub areasOf : ℕ → ℕ → Areas
-areasOf nodes links =
+-- behind it eight areas of a word for each node, and one of a word for each copy. Some have several names, since one array is done with before another
+-- begins there: the line and the order; the nodes that became ready and the places; and between two orders, where the spaces are found, two of an order's
+abbrev pub areasOf : ℕ → ℕ → ℕ → Areas
+areasOf nodes links copies =
     let g = graphWords nodes links in
     record {
       nodes = nodes;
+      copies = copies;
       firsts = nodes;
       counts = nodes * 2;
       links = nodes * 3;
       keys = g;
       spots = g;
       waiting = g + nodes;
-      spaces = g + nodes;
       arrived = g + nodes * 2;
       places = g + nodes * 2;
       bosses = g + nodes * 2;
@@ -32,15 +33,21 @@ areasOf nodes links =
       line = g + nodes * 4;
       incoming = g + nodes * 5;
       distances = g + nodes * 6;
-      end = g + nodes * 7;
+      spaces = g + nodes * 7;
+      origins = g + nodes * 8;
+      end = g + nodes * 8 + copies;
     }
 
--- how many words the work memory needs
-abbrev pub workNeed : ℕ → ℕ → ℕ
-workNeed objects links = areasOf objects links .end
+-- a copy takes one node, and as many links as there may be
+abbrev pub areasFor : ℕ → ℕ → ℕ → Areas
+areasFor objects links copies = areasOf (objects + copies) (links * (copies + 1)) copies
 
-pub work-bound : (objects links : ℕ) → workNeed objects links ≤ mostNeed objects links
-work-bound objects links = omega arith
+-- how many words the work memory needs
+abbrev pub workNeed : ℕ → ℕ → ℕ → ℕ
+workNeed objects links copies = areasFor objects links copies .end
+
+pub work-bound : (objects links copies : ℕ) → workNeed objects links copies ≤ mostWorkNeed objects links copies
+work-bound objects links copies = omega (arith, mul-add links copies 1, mul-add copies links 1, mul-comm links copies)
 
 -- what is known of areas by numbers: each begins where the one before it ends
 pub record Apart (a : Areas) : Type 0 where
@@ -50,7 +57,6 @@ pub record Apart (a : Areas) : Type 0 where
   pub keys : a .links ≤ a .keys
   pub spots : a .spots ≡ a .keys
   pub waiting : a .waiting ≡ a .keys + a .nodes
-  pub spaces : a .spaces ≡ a .waiting
   pub arrived : a .arrived ≡ a .waiting + a .nodes
   pub places : a .places ≡ a .arrived
   pub bosses : a .bosses ≡ a .arrived
@@ -59,10 +65,12 @@ pub record Apart (a : Areas) : Type 0 where
   pub line : a .line ≡ a .order
   pub incoming : a .incoming ≡ a .order + a .nodes
   pub distances : a .distances ≡ a .incoming + a .nodes
-  pub end : a .end ≡ a .distances + a .nodes
+  pub spaces : a .spaces ≡ a .distances + a .nodes
+  pub origins : a .origins ≡ a .spaces + a .nodes
+  pub end : a .end ≡ a .origins + a .copies
 
-pub areas-apart : (nodes links : ℕ) → Apart (areasOf nodes links)
-areas-apart nodes links =
+pub areas-apart : (nodes links copies : ℕ) → Apart (areasOf nodes links copies)
+areas-apart nodes links copies =
     record {
       firsts = omega arith;
       counts = omega arith;
@@ -70,7 +78,6 @@ areas-apart nodes links =
       keys = omega arith;
       spots = omega arith;
       waiting = omega arith;
-      spaces = omega arith;
       arrived = omega arith;
       places = omega arith;
       bosses = omega arith;
@@ -79,5 +86,7 @@ areas-apart nodes links =
       line = omega arith;
       incoming = omega arith;
       distances = omega arith;
+      spaces = omega arith;
+      origins = omega arith;
       end = omega arith;
     }

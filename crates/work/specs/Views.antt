@@ -1,7 +1,9 @@
 -- What each area of the work memory w holds; of a list that grows, the first words.
-use Prim.Native.Nat.{ℕ}
+use Prim.Native.Nat.{ℕ, _-_}
 use mathlib.Core.List.{List}
 use lib.ListN.{getD}
+use lib.Dec.{ltb}
+use Rattle.lists.specs.Lists.{pick}
 use Rattle.regions.specs.Region.{region}
 use Rattle.work.specs.declared.Areas.{Areas}
 
@@ -44,6 +46,18 @@ incomingIn a w = region (a .incoming) (a .nodes) w
 abbrev pub distancesIn : Areas → List ℕ → List ℕ
 distancesIn a w = region (a .distances) (a .nodes) w
 
+-- the number of each node's space
+abbrev pub spacesIn : Areas → List ℕ → List ℕ
+spacesIn a w = region (a .spaces) (a .nodes) w
+
+-- the object of each copy
+abbrev pub originsIn : Areas → List ℕ → List ℕ
+originsIn a w = region (a .origins) (a .copies) w
+
+-- the object of node i: itself among the first n, which are the objects
+abbrev pub originIn : Areas → ℕ → List ℕ → ℕ → ℕ
+originIn a n w i = pick (ltb i n) i (getD (originsIn a w) (i - n) 0)
+
 -- ---- between two orders
 
 -- each node's position in the order; in space 0 the root's, which is 0
@@ -53,7 +67,3 @@ spotsIn a w = region (a .spots) (a .nodes) w
 -- the boss of each of r positions
 abbrev pub bossesIn : Areas → ℕ → List ℕ → List ℕ
 bossesIn a r w = region (a .bosses) r w
-
--- the number of each node's space
-abbrev pub spacesIn : Areas → List ℕ → List ℕ
-spacesIn a w = region (a .spaces) (a .nodes) w
