@@ -46,8 +46,14 @@ pub enum Closing {
     Refused(Refusal, Tally),
 }
 
-// Of pack: the table's length.
+// A table: its length, and how many of its objects are copies.
+pub struct PackedTable {
+    pub length: usize,
+    pub copies: usize,
+}
+
+// Of pack.
 pub enum Packing {
-    Done(usize, Tally),
+    Done(PackedTable, Tally),
     Refused(Refusal, Tally),
 }

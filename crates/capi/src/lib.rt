@@ -1,6 +1,6 @@
 // The eight calls and the two needs for callers in C, as include/scoterlime.h declares them.
 //
-// Each is one proved call and its answer turned into ten numbers. None asks anything of the lent memory's contents; that a pointer is good for
+// Each is one proved call and its answer turned into eleven numbers. None asks anything of the lent memory's contents; that a pointer is good for
 // its length, and that lent areas do not overlap, is the caller's part.
 mod calls;
 mod needs;

@@ -1,5 +1,7 @@
-// How many words to lend for given limits.
+// How many words to lend for given limits, and to a pack for so many copies.
 ghost use mathlib.Core.Path.{_≡_};
+ghost use Prim.Native.Nat.{min};
+ghost use Rattle.model.specs.Judge.{mostCopies};
 ghost use Rattle.layout.specs.Words.{need};
 ghost use Rattle.work.specs.Areas.{workNeed};
 
@@ -11,10 +13,10 @@ pub extern "C" fn scoterlime_records_need(objects: u32, links: u32) -> u64
     layout::words::need(objects, links) as u64
 }
 
-// Of u64, for a pack's work memory.
+// Of u64, for a pack's work memory; for more copies than may be allowed, as many as for the most.
 #[no_mangle]
-pub extern "C" fn scoterlime_work_need(objects: u32, links: u32) -> u64
-    ensures { λ r. ⌜ r ≡ workNeed objects links ⌝ }
+pub extern "C" fn scoterlime_work_need(objects: u32, links: u32, copies: u32) -> u64
+    ensures { λ r. ⌜ r ≡ workNeed objects links (min copies mostCopies) ⌝ }
 {
-    work::need(objects, links) as u64
+    work::need(objects, links, copies) as u64
 }

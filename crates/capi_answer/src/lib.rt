@@ -1,4 +1,4 @@
-// An answer as ten numbers. Values that a call does not have are 0.
+// An answer as eleven numbers. Values that a call does not have are 0.
 use answer::Answer;
 use answer::Closing;
 use answer::Overflow;
@@ -24,10 +24,11 @@ pub struct Numbers {
     pub parent: u64,
     pub field: u64,
     pub needed: u64,
+    pub copies: u64,
 }
 
-fn ten(number: u64, t: Tally, id: u64, length: u64, o: Overflow) -> Numbers
-    ensures { λ r. ⌜ toldIn r ≡ record { number = number; tally = t; id = id; length = length; overflow = o } ⌝ }
+fn as_numbers(number: u64, t: Tally, id: u64, length: u64, copies: u64, o: Overflow) -> Numbers
+    ensures { λ r. ⌜ toldIn r ≡ record { number = number; tally = t; id = id; length = length; copies = copies; overflow = o } ⌝ }
 {
     let parent = o.parent;
     Numbers {
@@ -41,20 +42,21 @@ fn ten(number: u64, t: Tally, id: u64, length: u64, o: Overflow) -> Numbers
         parent: parent.0 as u64,
         field: o.field as u64,
         needed: o.needed as u64,
+        copies,
     }
 }
 
 fn tell_refused(why: Refusal, t: Tally) -> Numbers
     ensures { λ r. ⌜ toldIn r ≡ refusedTold why t ⌝ }
 {
-    ten(number_of(why), t, 0, 0, named_by(why))
+    as_numbers(number_of(why), t, 0, 0, 0, named_by(why))
 }
 
 pub fn tell(a: Answer) -> Numbers
     ensures { λ r. ⌜ toldIn r ≡ toldBy a ⌝ }
 {
     match a {
-        Answer::Done(t) => ten(0, t, 0, 0, nowhere()),
+        Answer::Done(t) => as_numbers(0, t, 0, 0, 0, nowhere()),
         Answer::Refused(why, t) => tell_refused(why, t),
     }
 }
@@ -63,7 +65,7 @@ pub fn tell_close(a: Closing) -> Numbers
     ensures { λ r. ⌜ toldIn r ≡ toldByClose a ⌝ }
 {
     match a {
-        Closing::Done(id, t) => ten(0, t, id.0 as u64, 0, nowhere()),
+        Closing::Done(id, t) => as_numbers(0, t, id.0 as u64, 0, 0, nowhere()),
         Closing::Refused(why, t) => tell_refused(why, t),
     }
 }
@@ -72,7 +74,7 @@ pub fn tell_pack(a: Packing) -> Numbers
     ensures { λ r. ⌜ toldIn r ≡ toldByPack a ⌝ }
 {
     match a {
-        Packing::Done(n, t) => ten(0, t, 0, n as u64, nowhere()),
+        Packing::Done(p, t) => as_numbers(0, t, 0, p.length as u64, p.copies as u64, nowhere()),
         Packing::Refused(why, t) => tell_refused(why, t),
     }
 }

@@ -1,5 +1,5 @@
 // The eight calls, each by its letter.
-use crate::lines::Three;
+use crate::lines::Four;
 use crate::lines::unhex;
 use crate::memory::at_most;
 use crate::memory::filled;
@@ -14,27 +14,34 @@ fn put_few(line: &[u8], store: &mut [u8], records: &mut [u32]) {
     report_calls::put(b"put", store, records, &space[0..k]);
 }
 
-fn put_many(n: Three, store: &mut [u8], records: &mut [u32]) {
+fn put_many(n: Four, store: &mut [u8], records: &mut [u32]) {
     let space = filled((n.first % 256) as u8);
     let bytes: &[u8] = &space;
     let k = at_most(n.second, bytes.len());
     report_calls::put(b"put", store, records, &bytes[0..k]);
 }
 
-fn pack_in(id: u32, store: &[u8], records: &[u32], out: &mut [u8], work: &mut [u64]) {
-    report_calls::pack(store, records, ObjectId(id), out, work);
+fn pack_in(id: u32, copies: u32, store: &[u8], records: &[u32], out: &mut [u8], work: &mut [u64]) {
+    report_calls::pack(store, records, ObjectId(id), copies, out, work);
     show_bytes(b"output=", out);
     show_longs(b"work=", work);
 }
 
-fn pack(n: Three, store: &[u8], records: &[u32]) {
+fn pack(n: Four, store: &[u8], records: &[u32]) {
     let mut space = filled(0xa5);
     let mut long: [u64; 512] = [0xa5a5a5a5a5a5a5a5; 512];
     let out: &mut [u8] = &mut space;
     let work: &mut [u64] = &mut long;
-    let k = at_most(n.second, out.len());
-    let w = at_most(n.third, work.len());
-    pack_in(n.first, store, records, &mut out[0..k], &mut work[0..w]);
+    let k = at_most(n.third, out.len());
+    let w = at_most(n.fourth, work.len());
+    pack_in(
+        n.first,
+        n.second,
+        store,
+        records,
+        &mut out[0..k],
+        &mut work[0..w],
+    );
 }
 
 fn show(store: &[u8], records: &[u32]) {
@@ -42,7 +49,7 @@ fn show(store: &[u8], records: &[u32]) {
     show_words(b"records=", records);
 }
 
-pub fn call(op: u8, n: Three, line: &[u8], store: &mut [u8], records: &mut [u32]) {
+pub fn call(op: u8, n: Four, line: &[u8], store: &mut [u8], records: &mut [u32]) {
     match op {
         b's' => report_calls::start(store, records, n.first, n.second),
         b'o' => report_calls::open(store, records),

@@ -2,10 +2,11 @@
 ghost use Prim.Native.Nat.{_≤_};
 ghost use lib.ListN.{length};
 
-pub struct Three {
+pub struct Four {
     pub first: u32,
     pub second: u32,
     pub third: u32,
+    pub fourth: u32,
 }
 
 pub struct Parsed {
@@ -28,16 +29,18 @@ pub fn line_end(input: &[u8], at: usize) -> usize
     i
 }
 
-// The three numbers behind the letter of the line at `at`. One that is not there means nothing.
-pub fn arguments(input: &[u8], at: usize) -> Three {
+// The four numbers behind the letter of the line at `at`. One that is not there means nothing.
+pub fn arguments(input: &[u8], at: usize) -> Four {
     let letter = number(input, at);
     let a = number(input, letter.next);
     let b = number(input, a.next);
     let c = number(input, b.next);
-    Three {
+    let d = number(input, c.next);
+    Four {
         first: a.value,
         second: b.value,
         third: c.value,
+        fourth: d.value,
     }
 }
 

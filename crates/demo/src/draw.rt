@@ -105,9 +105,10 @@ fn draw_table(table: &[u8]) {
 
 // The table that a pack left at the front of its output.
 pub fn draw(out: &[u8], told: Packing) {
-    let Packing::Done(n, _) = told else {
+    let Packing::Done(p, _) = told else {
         return;
     };
+    let n = p.length;
     if n <= out.len() {
         draw_table(&out[0..n]);
     }

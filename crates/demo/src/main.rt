@@ -10,8 +10,8 @@ use report::text;
 // The root is the last object closed.
 fn pack_and_draw(store: &[u8], records: &[u32]) {
     let mut out: [u8; 16] = [0; 16];
-    let mut work: [u64; 48] = [0; 48];
-    let told = report_calls::pack(store, records, ObjectId(3), &mut out, &mut work);
+    let mut work: [u64; 52] = [0; 52];
+    let told = report_calls::pack(store, records, ObjectId(3), 0, &mut out, &mut work);
     text(
         b"\nThe packed table in hex: a is 61, d is 64. An offset counts from the first byte of the object that holds it.\n\n",
     );

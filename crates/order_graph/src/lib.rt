@@ -8,7 +8,8 @@ ghost use mathlib.Core.Path.{_≡_};
 ghost use Prim.Native.Nat.{_+_, _*_, _≤_, _<_};
 ghost use lib.ListN.{take};
 ghost use Rattle.work.specs.Packed.{packedWords};
-ghost use Rattle.order_graph.specs.Graph.{AtNode, AtLink, FieldOf, EdgeOf, linkBy, linksAt, linkCount, objectOf, mostNodes};
+ghost use Rattle.work.specs.Views.{originIn};
+ghost use Rattle.order_graph.specs.Graph.{AtNode, AtLink, FieldOf, EdgeOf, Owned, HasOrigin, linkBy, linksAt, linkCount, objectOf, mostNodes};
 
 // A link: its field's place and width, and the child.
 pub struct Field {
@@ -24,12 +25,33 @@ pub struct Edge {
     pub weight: u64,
 }
 
-// The id under which a node is told, and by which its bytes are found.
+// The id of object i.
 pub fn object_of(i: usize) -> ObjectId
     requires { ⌜ i < mostNodes ⌝ }
     ensures { λ r. ⌜ r ≡ objectOf i ⌝ }
 {
     ObjectId(i as u32)
+}
+
+// The number of the object of node i, where the first n nodes are the objects: its own, or that of the object it is a copy of.
+pub fn origin_at(work: &[u64], a: Areas, n: usize, i: usize) -> usize
+    requires { ⌜ HasOrigin a n i (now work) ⌝ }
+    ensures { λ r. ⌜ r ≡ originIn a n (now (work .entry)) i ⌝ }
+{
+    if i < n {
+        return i;
+    }
+    let at = a.origins + (i - n);
+    work[at] as usize
+}
+
+// The id of that object.
+pub fn origin_of(work: &[u64], a: Areas, n: usize, nodes: usize, i: usize) -> ObjectId
+    requires { ⌜ AtNode a nodes i (now work) × Owned a n nodes (now work) ⌝ }
+    ensures { λ r. ⌜ r ≡ objectOf (originIn a n (now (work .entry)) i) ⌝ }
+{
+    let origin = origin_at(work, a, n, i);
+    object_of(origin)
 }
 
 // How many links node i has.
@@ -42,7 +64,7 @@ pub fn link_count(work: &[u64], a: Areas, n: usize, i: usize) -> usize
 }
 
 // Where the words of link t of node i begin.
-fn words_at(work: &[u64], a: Areas, n: usize, i: usize, t: usize) -> usize
+pub fn words_at(work: &[u64], a: Areas, n: usize, i: usize, t: usize) -> usize
     requires { ⌜ AtLink a n i t (now work) ⌝ }
     ensures { λ r. ⌜ (r + packedWords ≤ a .keys) × (r ≡ linksAt a (take (a .keys) (now (work .entry))) i + t * packedWords) ⌝ }
 {

@@ -11,7 +11,7 @@ mod kid;
 mod mark;
 mod number;
 
-// The number of each node's space, over the order of r nodes from the root. The order stands, and all behind it.
+// The number of each node's space, over the order of r nodes from the root. The order stands, and all behind it but these numbers.
 pub fn number_spaces(work: &mut [u64], a: Areas, n: usize, r: usize, root: usize)
     requires { ⌜ Spacing a n r root (now work) ⌝ }
     ensures { λ _. ⌜ Spaced a n r root (now (work .entry)) (now (work .exit)) ⌝ }

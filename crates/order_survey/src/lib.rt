@@ -19,7 +19,7 @@ ghost use Rattle.order_survey.specs.Survey.{Counting, CountedAll, Lining
 const FAR_AWAY: u64 = 281474976710656;
 
 // The fields of node i, which joined the line, counted.
-fn count_links(work: &mut [u64], a: Areas, n: usize, i: usize)
+pub fn count_links(work: &mut [u64], a: Areas, n: usize, i: usize)
     requires { ⌜ Counting a n i (now work) ⌝ }
     ensures { λ _. ⌜ CountedAll a n i (now (work .entry)) (now (work .exit)) ⌝ }
 {
@@ -129,7 +129,7 @@ fn line_length(work: &[u64], a: Areas, n: usize, r: usize) -> u64
     sum
 }
 
-// Line and incoming fields from the root; the answer is the length of the table.
+// Line and incoming fields from the root; the answer is the length of a table without copies.
 pub fn survey(work: &mut [u64], a: Areas, n: usize, root: usize) -> u64
     requires { ⌜ AtNode a n root (now work) × Acyclic (graphOn a n (now work)) ⌝ }
     ensures { λ r. ⌜ Measured a n root r (now (work .entry)) (now (work .exit)) ⌝ }

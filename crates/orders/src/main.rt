@@ -165,7 +165,7 @@ fn show(name: &[u8], nodes: &[u64], links: &[u32], p: usize)
     load(nodes, work, 0);
     load_links(links, work, nodes.len());
     print_name(name);
-    show_orders(work, Areas::of(p, links.len() / LINK_WORDS));
+    show_orders(work, Areas::of(p, links.len() / LINK_WORDS, 0));
 }
 
 fn graph_5() {

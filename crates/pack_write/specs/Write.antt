@@ -2,30 +2,41 @@
 use Prim.Native.Nat.{ℕ, _≤_, _<_}
 use mathlib.Core.Path.{_≡_}
 use mathlib.Core.List.{List}
-use lib.ListN.{getD}
+use lib.ListN.{length, getD}
 use Rattle.lists.specs.Lists.{total}
 use Rattle.model.specs.Bag.{count}
-use Rattle.model.specs.Graph.{graphOf, Closed, Once}
-use Rattle.model.specs.Table.{placeOf, tableOf}
+use Rattle.model.specs.Graph.{Closed, Once}
+use Rattle.model.specs.Table.{placeOf, tableOf, FieldsIn}
 use Rattle.model.specs.Session.{content}
 use Rattle.layout.specs.Decode.{decode}
 use Rattle.layout.specs.Known.{Read}
 use Rattle.layout.specs.declared.state.State.{State}
-use Rattle.work.specs.Views.{orderIn, placesIn}
+use Rattle.work.specs.Views.{orderIn, placesIn, originIn}
 use Rattle.work.specs.declared.Areas.{Areas}
 use Rattle.order_place.specs.Place.{OrderIds}
-use Rattle.pack_copy.specs.Copy.{Standing}
+use Rattle.order_graph.specs.Graph.{graphOn, Stands, Owned}
 
--- what writing r objects into `room` bytes asks
-pub record Writing (b w : List ℕ) (s : State) (a : Areas) (m : List ℕ) (r room : ℕ) : Type 0 where
+-- the bytes of each node: those of its object, of which there are n
+abbrev pub bytesOf : List ℕ → List ℕ → Areas → ℕ → List ℕ → ℕ → List ℕ
+bytesOf b w a n m i = content (decode b w) (originIn a n m i)
+
+-- a node has as many bytes as its object, and its fields lie in them
+pub record NodeFits (b w : List ℕ) (a : Areas) (n nodes : ℕ) (m : List ℕ) (i : ℕ) : Type 0 where
+  pub sized : length (bytesOf b w a n m i) ≡ graphOn a nodes m .size i
+  pub fields : FieldsIn 0 (graphOn a nodes m .size i) (graphOn a nodes m .links i)
+
+-- what writing r nodes into `room` bytes asks
+pub record Writing (b w : List ℕ) (s : State) (a : Areas) (nodes : ℕ) (m : List ℕ) (r room : ℕ) : Type 0 where
   pub read : Read b w s
-  pub stands : Standing b w a (s .closed) m
-  pub nodes : OrderIds a (s .closed) r m
+  pub graph : Stands a nodes m
+  pub owned : Owned a (s .closed) nodes m
+  pub each : (i : ℕ) → i < nodes → NodeFits b w a (s .closed) nodes m i
+  pub ids : OrderIds a nodes r m
   pub once : Once (orderIn a r m)
-  pub closed : Closed (graphOf (decode b w .closed)) (orderIn a r m)
-  pub places : (i : ℕ) → 0 < count i (orderIn a r m) → getD (placesIn a m) i 0 ≡ placeOf (graphOf (decode b w .closed)) (orderIn a r m) i
-  pub fits : total (graphOf (decode b w .closed) .size) (orderIn a r m) ≤ room
+  pub closed : Closed (graphOn a nodes m) (orderIn a r m)
+  pub places : (i : ℕ) → 0 < count i (orderIn a r m) → getD (placesIn a m) i 0 ≡ placeOf (graphOn a nodes m) (orderIn a r m) i
+  pub fits : total (graphOn a nodes m .size) (orderIn a r m) ≤ room
 
--- the table of the objects of an order
-abbrev pub tableFor : List ℕ → List ℕ → List ℕ → List ℕ
-tableFor b w order = tableOf (graphOf (decode b w .closed)) (content (decode b w)) order
+-- the table of r placed nodes
+abbrev pub tableFor : List ℕ → List ℕ → Areas → ℕ → ℕ → ℕ → List ℕ → List ℕ
+tableFor b w a n nodes r m = tableOf (graphOn a nodes m) (bytesOf b w a n m) (orderIn a r m)

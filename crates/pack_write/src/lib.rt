@@ -5,14 +5,14 @@ use order_fit::node_at;
 use order_fit::offset_at;
 use order_graph::field_at;
 use order_graph::link_count;
-use order_graph::object_of;
+use order_graph::origin_of;
 use work::Areas;
 ghost use mathlib.Core.Path.{_≡_};
 ghost use Prim.Native.Nat.{_≤_};
 ghost use lib.ListN.{length};
 ghost use Rattle.lists.specs.Lists.{over};
 ghost use Rattle.model.specs.Table.{filled, FieldsIn};
-ghost use Rattle.work.specs.Views.{orderIn, placesIn};
+ghost use Rattle.work.specs.Views.{placesIn};
 ghost use Rattle.order_graph.specs.Graph.{graphOn, AtNode};
 ghost use Rattle.order_fit.specs.Fit.{offsetBy};
 ghost use Rattle.pack_write.specs.Write.{Writing, tableFor};
@@ -41,31 +41,32 @@ fn write_object(part: &mut [u8], bytes: &[u8], work: &[u64], a: Areas, n: usize,
     write_fields(part, work, a, n, i);
 }
 
-// The placed objects, each lent its part of the output from its place on.
+// The placed nodes, each lent its part of the output from its place on; a copy has the bytes of its original.
 pub fn write_table(
     out: &mut [u8],
     store: &[u8],
     records: &[u32],
     s: State,
     a: Areas,
+    nodes: usize,
     work: &[u64],
     placed: usize,
 )
-    requires { ⌜ Writing (now store) (now records) s a (now work) placed (length (now out)) ⌝ }
-    ensures { λ _. ⌜ now (out .exit) ≡ over 0 (tableFor (now (store .entry)) (now (records .entry)) (orderIn a placed (now (work .entry)))) (now (out .entry)) ⌝ }
+    requires { ⌜ Writing (now store) (now records) s a nodes (now work) placed (length (now out)) ⌝ }
+    ensures { λ _. ⌜ now (out .exit) ≡ over 0 (tableFor (now (store .entry)) (now (records .entry)) a (s .closed) nodes placed (now (work .entry))) (now (out .entry)) ⌝ }
 {
     let n = s.closed;
     let p = s.objects;
     let mut t = 0;
     while t < placed {
-        let i = node_at(work, a, n, placed, t);
+        let i = node_at(work, a, nodes, placed, t);
         let j = a.places + i;
         let place = work[j] as usize;
-        let id = object_of(i);
+        let id = origin_of(work, a, n, nodes, i);
         let o = closed_span(records, p, id.0 as usize);
         let from = o.from;
         let to = o.to;
-        write_object(&mut out[place..], &store[from..to], work, a, n, i);
+        write_object(&mut out[place..], &store[from..to], work, a, nodes, i);
         t += 1;
     }
 }

@@ -5,6 +5,7 @@ use answer::Answer;
 use answer::Closing;
 use answer::ObjectId;
 use answer::Overflow;
+use answer::PackedTable;
 use answer::Packing;
 use answer::Tally;
 use answer::named_by;
@@ -56,16 +57,24 @@ fn overflow(o: Overflow) {
     value(b" needed=", o.needed as u64);
 }
 
-fn packed(n: u64, t: Tally, length: usize, o: Overflow) {
+fn packed(n: u64, t: Tally, p: PackedTable, o: Overflow) {
     told(b"pack", n, t);
-    value(b" length=", length as u64);
+    value(b" length=", p.length as u64);
     overflow(o);
+    value(b" copies=", p.copies as u64);
     text(b"\n");
+}
+
+fn no_table() -> PackedTable {
+    PackedTable {
+        length: 0,
+        copies: 0,
+    }
 }
 
 pub fn tell_pack(a: Packing) {
     match a {
-        Packing::Done(n, t) => packed(0, t, n, nowhere()),
-        Packing::Refused(r, t) => packed(number_of(r), t, 0, named_by(r)),
+        Packing::Done(p, t) => packed(0, t, p, nowhere()),
+        Packing::Refused(r, t) => packed(number_of(r), t, no_table(), named_by(r)),
     }
 }

@@ -46,10 +46,11 @@ pub fn pack(
     store: &[u8],
     records: &[u32],
     id: ObjectId,
+    copies: u32,
     out: &mut [u8],
     work: &mut [u64],
 ) -> Packing {
-    let told = pack::pack(store, records, id, out, work);
+    let told = pack::pack(store, records, id, copies, out, work);
     tell_pack(told);
     told
 }
