@@ -1,4 +1,4 @@
--- docs/RULES.md, 6.2 and 7.7, on lent memory: what a duplicate is never told, and which fields always hold their offset.
+-- docs/RULES.md, 6.2 and 7.7, on lent memory: what a duplicate is never told, and which fields always hold their offset where no copy is made.
 use mathlib.Core.Path.{_≡_, ap}
 use Prim.Native.Nat.{ℕ, _-_, _≤_, _<_}
 use mathlib.Core.List.{List}
@@ -58,7 +58,7 @@ module _ (b w : List ℕ) (h : sound b w ≡ true) (id : ℕ) (known : id < clos
       let s = sound-facts b w h in
       omega (arith, reached-held (decode b w .closed) id, ap (λ (t : Tally). t .bytes) (tally-decode b w h))
 
-  -- in an order of what the root reaches, each placed once
+  -- without copies: in an order of what the root reaches, each placed once
   module _ (o : List ℕ) (once : (c : ℕ) → count c o ≡ count c (reached g id)) (p : ℕ) (l : Link) (k : 0 < count p o) (i : In l (g .links p)) where
     pub wide-fits : mostBytes ≤ capacity (l .slot .width) → fits (l .slot .width) (offset (placeOf g o) p l) ≡ true
     unfolding Closed
@@ -70,7 +70,7 @@ module _ (b w : List ℕ) (h : sound b w ≡ true) (id : ℕ) (known : id < clos
         (some-bytes c (omega (arith, reached-low g id p (rw (once p) at k))))
         mostBytes (rw (total-bag (g .size) o (reached g id) once) reached-most) wide
 
-    -- widths 3 and 4 always fit
+    -- widths 3 and 4 always fit there
     pub three-fits : l .slot .width ≡ 3 → fits (l .slot .width) (offset (placeOf g o) p l) ≡ true
     three-fits e = wide-fits (rw e (omega arith))
 

@@ -11,6 +11,7 @@ use Rattle.lists.specs.Lists.{pick, Exactly}
 use Rattle.lists.proofs.Whole.{over-front, over-rest}
 use Rattle.answer.specs.Number.{number}
 use Rattle.answer.specs.declared.Refusal.{Refusal}
+use Rattle.answer.specs.declared.PackedTable.{PackedTable}
 use Rattle.answer.specs.declared.Packing.the-variants.{Done}
 use Rattle.model.specs.Judge.{Verdict, accepted, refused, numberOf, inTable, Tells, verdict}
 use Rattle.model.specs.Told.{Told, refusal, toldBy, toldByClose, toldByPack}
@@ -93,56 +94,56 @@ store-answers s c =
       outStands = λ n. refl;
       recordsSurplus = store-surplus s c;
       workSurplus = refl;
-      workCleared = λ id out work f k. absurd (let z : _≡_ {A = ℕ} 0 1 = cc in omega arith);
+      workCleared = λ id copies out work f k. absurd (let z : _≡_ {A = ℕ} 0 1 = cc in omega arith);
       workStands = λ k. refl;
     }
 
 -- ---- pack
 
-module _ (s : Stores) (id : ℕ) (out work : List ℕ) where
+module _ (s : Stores) (id copies : ℕ) (out work : List ℕ) where
   -- by a verdict: its number is told, and a refused one leaves the output
   record JudgedPack (v : Verdict) (o : PackOut) : Type 0 where
     numberIs : toldByPack (o .answer) .number ≡ numberOf v
     refuses : Refuses s (toldByPack (o .answer))
     outStands : (toldByPack (o .answer) .number ≡ 0 → ⊥) → o .out ≡ out
     -- the work memory cleared, or as it was
-    workIs : o .work ≡ pick (clearing (numberOf v)) (cleared (s .words) work) work
+    workIs : o .work ≡ pick (clearing (numberOf v)) (cleared copies (s .words) work) work
 
-  packed-by : (v : Verdict) (n : ℕ) (t : List ℕ) → JudgedPack v (settlePackStep v (s .bytes) (s .words) out work (packed (Done n (tallyIn (s .bytes) (s .words))) t (cleared (s .words) work)))
+  packed-by : (v : Verdict) (n : PackedTable) (t : List ℕ) → JudgedPack v (settlePackStep v copies (s .bytes) (s .words) out work (packed (Done n (tallyIn (s .bytes) (s .words))) t (cleared copies (s .words) work)))
   packed-by accepted n t = record { numberIs = refl; refuses = λ n. absurd (n refl); outStands = λ n. absurd (n refl); workIs = refl }
   packed-by (refused why) n t = record { numberIs = refl; refuses = λ n. (why, refl); outStands = λ n. refl; workIs = rw (ne-eqb (number why) 0 (λ z. omega (arith, refused-number why))) }
 
-  judged-pack : JudgedPack (verdict (testsOf s (pack id out work))) (packStep id (s .bytes) (s .words) out work)
+  judged-pack : JudgedPack (verdict (testsOf s (pack id copies out work))) (packStep id copies (s .bytes) (s .words) out work)
   unfolding testsOf packStep
-  judged-pack = packed-by (verdict (testsOf s (pack id out work))) _ _
+  judged-pack = packed-by (verdict (testsOf s (pack id copies out work))) _ _
 
   abbrev n : ℕ
-  n = workNeeded s
+  n = workNeeded s copies
 
-  past : (x : Bool) → drop n (pick x (cleared (s .words) work) work) ≡ drop n work
+  past : (x : Bool) → drop n (pick x (cleared copies (s .words) work) work) ≡ drop n work
   past true = rw (length-replicate {A = ℕ} n 0) at (over-rest (replicate n 0) work)
   past false = refl
 
-  zeros : take n (cleared (s .words) work) ≡ replicate n 0
+  zeros : take n (cleared copies (s .words) work) ≡ replicate n 0
   zeros = rw (length-replicate {A = ℕ} n 0) at (over-front (replicate n 0) work)
 
-  pack-answers : Answers s (pack id out work) (lentStep (pack id out work) s)
+  pack-answers : Answers s (pack id copies out work) (lentStep (pack id copies out work) s)
   unfolding lentStep
   pack-answers =
       let j = judged-pack in
       let e = j .numberIs in
       record {
-        exactly = number-exactly s (pack id out work) e;
-        inTable = number-listed s (pack id out work) e;
+        exactly = number-exactly s (pack id copies out work) e;
+        inTable = number-listed s (pack id copies out work) e;
         refused = j .refuses;
         storesStand = λ n. refl;
         outStands = j .outStands;
         recordsSurplus = refl;
-        workSurplus = rw (j .workIs) (past (clearing (numberOf (verdict (testsOf s (pack id out work))))));
-        workCleared = λ _ _ _ _ k. rw (j .workIs, rw e at k) zeros;
+        workSurplus = rw (j .workIs) (past (clearing (numberOf (verdict (testsOf s (pack id copies out work))))));
+        workCleared = λ _ d _ _ f k. let q : d ≡ copies = cc in rw (q, j .workIs, rw e at k) zeros;
         workStands = λ k. rw (j .workIs, rw e at k);
       }
 
 pub answers : (s : Stores) (c : LentCall) → Answers s c (lentStep c s)
 answers s (onStores c) = store-answers s c
-answers s (pack id out work) = pack-answers s id out work
+answers s (pack id copies out work) = pack-answers s id copies out work

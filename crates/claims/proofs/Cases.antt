@@ -7,8 +7,9 @@ use Rattle.model.specs.Object.{anyHopeless}
 use Rattle.model.specs.Bag.{one, count, without, zerosOf, lastOnce, least}
 use Rattle.model.specs.Graph.{kidsOf, waits, reachDown, reached}
 use Rattle.model.specs.Order.{orderFrom, orderBy}
-use Rattle.model.specs.Distance.{relax, relaxAll, distancesBy, beyond, distance, kahnOrder, distanceOrder}
-use Rattle.model.specs.Table.{before, offset, unfitLinks, unfitFrom, tryOrder, tryLast, firstFit, arranged, tableLength, filled, objectBytes, tableFrom, tableOf}
+use Rattle.model.specs.Distance.{distanceAlong, relax, relaxAll, distancesBy, beyond, distance, kahnOrder, distanceOrder}
+use Rattle.model.specs.Table.{before, offset, unfitLinks, unfitFrom, filled, objectBytes, tableFrom, tableOf}
+use Rattle.model.specs.Copies.{grownKey, spaceOrder, tryOrder, resolve, arranged, tableBy}
 use Rattle.model.specs.Judge.{verdict}
 use Rattle.model.specs.Cases.{cases}
 use Rattle.layout.specs.Tables.{chain, chained, forAll}
@@ -23,5 +24,5 @@ use Rattle.claims.specs.Demand.{run}
 use Rattle.claims.specs.Cases.{idsTold, countsTold, memoryRight, right, allRight}
 
 pub cases-right : allRight cases ≡ true
-unfolding allRight right memoryRight countsTold idsTold run lentStep packStep stepOn startStep openStep putStep linkStep dropStep tallyStep twinIn closeStep opensTo closedTo decode headTests headOk tableTests soundTests sound fieldTests fieldsOk linksOf chain chained forAll verdict anyHopeless arranged firstFit tryOrder tryLast unfitFrom unfitLinks offset before tableLength tableOf tableFrom objectBytes filled kahnOrder distanceOrder distance distancesBy beyond relaxAll relax orderBy orderFrom reached reachDown waits kidsOf one count without zerosOf lastOnce least sameList total firstThat over holds zeros bigEndian
+unfolding allRight right memoryRight countsTold idsTold run lentStep packStep stepOn startStep openStep putStep linkStep dropStep tallyStep twinIn closeStep opensTo closedTo decode headTests headOk tableTests soundTests sound fieldTests fieldsOk linksOf chain chained forAll verdict anyHopeless arranged resolve tryOrder spaceOrder grownKey distanceAlong unfitFrom unfitLinks offset before tableBy tableOf tableFrom objectBytes filled kahnOrder distanceOrder distance distancesBy beyond relaxAll relax orderBy orderFrom reached reachDown waits kidsOf one count without zerosOf lastOnce least sameList total firstThat over holds zeros bigEndian
 cases-right = refl

@@ -37,7 +37,7 @@ pack-claim {h = h} {id = id} {out = out} {o = o} {m = m} s f g = rw (f .told) re
         room = f .room e;
         shown = rw (over-front t out) (p .shown);
         rest = over-rest t out;
-        sum = p .long ∙ p .sum;
+        sum = rw (p .long) (p .sum);
       };
   untouched = f .untouched;
 }
@@ -61,7 +61,7 @@ module _ (bytes words : ℕ) where
   claimed : (c : LentCall) {s : Stores} {h : History} → Holding s h → Claimed c s h
   unfolding lentStep asLent afterAll Claim Agrees afterCall
   claimed (onStores c) {s = s} k =
-      let f = rw (k .sameBytes, k .sameWords) at (step-drawn (λ m. workNeed (m .objects) (m .links)) c s (k .session) (k .drawn)) in
+      let f = rw (k .sameBytes, k .sameWords) at (step-drawn (λ m copies. workNeed (m .objects) (m .links) copies) c s (k .session) (k .drawn)) in
       let d = sessionCall (asCall bytes words c) in
       record {
         trusted = λ z. never-unsound needs (asCall bytes words c) (k .session) (rw (f .told) at z);
@@ -74,9 +74,9 @@ module _ (bytes words : ℕ) where
           sameWords = f .sameWords ∙ k .sameWords;
         };
       }
-  claimed (packOn id out work) {s = s} k =
-      let f = pack-follows id s (k .session) out work (k .drawn) in
-      let d = packCall id (length out) (length work) in
+  claimed (packOn id copies out work) {s = s} k =
+      let f = pack-follows id copies s (k .session) out work (k .drawn) in
+      let d = packCall id copies (length out) (length work) in
       record {
         trusted = λ z. f .trusted (rw (f .told) at z);
         claim = pack-claim s f (call-agrees needs (k .mirrors) d);

@@ -1,21 +1,29 @@
--- docs/RULES.md, 2.9 and 4.10, on lent memory: which fields an order can always fill, and what a hopeless object never is.
-use mathlib.Core.Path.{_≡_, sym, ap, _∙_}
-use Prim.Native.Nat.{ℕ, _-_, _≤_, _<_}
-use mathlib.Core.List.{List}
+-- docs/RULES.md, 2.9 and 4.10: which fields an order can always fill, and what a hopeless object never is, on lent memory; and that none packs, whatever the copies.
+use mathlib.Core.Path.{_≡_, refl, sym, ap, _∙_}
+use Prim.Native.Nat.{ℕ, _+_, _-_, _≤_, _<_}
+use mathlib.Core.List.{List, [], _∷_}
 use mathlib.Core.Bool.{true, false, true≢false}
 use native.Mathlib.Omega.{arith}
 use native.Mathlib.Decide.{decLe}
 use borrow.Author.Tests.{eqb-false, lt-leb, not-false}
+use Rattle.lists.specs.Lists.{total}
 use Rattle.lists.proofs.Elements.{first-passes}
 use Rattle.answer.specs.Number.{number}
 use Rattle.answer.specs.declared.Refusal.the-variants as Refusal
 use Rattle.big_endian.specs.BigEndian.{capacity}
 use Rattle.big_endian.proofs.Laws.{capacity-rises}
-use Rattle.model.specs.Object.{Link, noObject, sizeOf, hopeless, hopelessObject, sameObject}
+use Rattle.model.specs.Bag.{one, count}
+use Rattle.model.specs.Object.{Link, noObject, sizeOf, hopeless, anyHopeless, slotsOf, hopelessObject, sameObject}
+use Rattle.model.specs.Graph.{Graph, reached}
 use Rattle.model.specs.Distance.{In}
+use Rattle.model.specs.Reading.{Reading, slotsIn, readLinks, Reads}
+use Rattle.model.specs.Copies.{Grown, Chosen}
 use Rattle.model.specs.Judge.{Tells, none, this, next, closeTests}
+use Rattle.model.proofs.Bags.{Same, same, other, sameOr, total-from}
 use Rattle.model.proofs.Distances.{in-kids}
-use Rattle.model.proofs.Hopeless.{hopes-all}
+use Rattle.model.proofs.Growths.{Base}
+use Rattle.model.proofs.Arrangements.{chosen-reads, chosen-fitting}
+use Rattle.model.proofs.Hopeless.{hopes-all, fit-hopes}
 use Rattle.model.proofs.SameReading.{object-equal}
 use Rattle.layout.specs.Words.{closedCount, openDepth, limitsIn, top}
 use Rattle.layout.specs.Fields.{objectOk}
@@ -80,3 +88,39 @@ three-never-hopeless s wide e = go (answers s (onStores close) .exactly (number 
         (sym k ∙ hopes-all _ (innermostIn b w .links) (λ l m. three-hopes b w (not-false (sound b w) i) (openDepth w - 1) (omega arith) l m (wide l m)))
     go (next _ (next _ (next _ (next _ (this _ z))))) = omega arith
     go (next _ (next _ (next _ (next _ (next _ (none z)))))) = omega arith
+
+-- ---- what packs is never hopeless: a copy has its object's size and fields
+
+slots-links : (ρ : ℕ → Reading) (ls : List Link) (bs : List ℕ) → slotsIn (readLinks ρ ls bs) ≡ slotsOf ls
+unfolding readLinks slotsIn
+slots-links ρ [] bs = refl
+slots-links ρ (l ∷ ls) bs = rw (slots-links ρ ls bs)
+
+count-total : (c : ℕ) (l : List ℕ) → total (one c) l ≡ count c l
+unfolding total count
+count-total c [] = refl
+count-total c (x ∷ l) = ap (λ (n : ℕ). one c x + n) (count-total c l)
+
+module _ {g : Graph} {content : ℕ → List ℕ} {ρ : ℕ → Reading} {n root : ℕ} (b : Base g content ρ n) (h : root < n) {copies : ℕ} {z : Grown} {o : List ℕ} (c : Chosen copies g n root z o) where
+  node-slots : (i : ℕ) → slotsOf (z .graph .links i) ≡ slotsOf (g .links (z .origin i))
+  unfolding Reads
+  node-slots i =
+      let v = chosen-reads copies g n root b h c in
+      sym (slots-links _ (z .graph .links i) _) ∙ ap slotsIn (sym (v .reads i) ∙ b .reads (z .origin i)) ∙ slots-links ρ (g .links (z .origin i)) _
+
+  node-hopes : (i : ℕ) → 0 < count i (z .line) → anyHopeless (g .size (z .origin i)) (slotsOf (g .links (z .origin i))) ≡ false
+  node-hopes i k =
+      let f = chosen-fitting copies g n root b h c in
+      let e = fit-hopes (z .graph) o (f .first) i (rw (f .once i) k) (f .fit) in
+      rw (← node-slots i, ← chosen-reads copies g n root b h c .grew .sizes i) e
+
+  -- no object that the root reaches, where one of the orders fits
+  pub chosen-hopes : (p : ℕ) → 0 < count p (reached g root) → anyHopeless (g .size p) (slotsOf (g .links p)) ≡ false
+  chosen-hopes p k =
+      let v = chosen-reads copies g n root b h c .grew in
+      let t = total-from (λ i. one p (z .origin i)) (z .line) (omega (arith, v .sum (one p), count-total p (reached g root))) in
+      go t (sameOr p (z .origin (t .0)))
+    where
+      go : (t : (i : ℕ) × (0 < count i (z .line)) × (0 < one p (z .origin i))) → Same p (z .origin (t .0)) → anyHopeless (g .size p) (slotsOf (g .links p)) ≡ false
+      go t (same e _ _) = rw e (node-hopes (t .0) (t .1))
+      go t (other _ _ z) = absurd (omega (arith, t .2))

@@ -112,10 +112,10 @@ module _ (s : Stores) where
   limits-stay : (c : StoreCall) → sound b w ≡ true → starts c ≡ false → limitsIn (stepOn c s .stores .words) ≡ limitsIn w
   limits-stay c h k =
       let l : Stores = stepOn c s .stores in
-      let f = step-drawn (λ m. 0) c s (decode b w) (sound-drawn b w h) in
+      let f = step-drawn (λ m copies. 0) c s (decode b w) (sound-drawn b w h) in
       limits-decode (l .bytes) (l .words)
       ∙ ap (λ (a : Session). a .limits) (f .drawn .holds)
-      ∙ step-limits (needsWith (λ m. 0)) (length b) (length w) c (decode b w) k
+      ∙ step-limits (needsWith (λ m copies. 0)) (length b) (length w) c (decode b w) k
       ∙ sym (limits-decode b w)
 
   limits-noted : (objects links : ℕ) → stepOn (start objects links) s .told .number ≡ 0 → limitsIn (stepOn (start objects links) s .stores .words) ≡ limitsOf objects links b

@@ -61,10 +61,10 @@ module _ (bytes words : ℕ) (s : Stores) (h : History) (xs : List Made) (m : Ma
   unfolding AllClaim
   claim = all-after bytes words xs (m ∷ ys) s h all .2
 
-  -- an accepted pack leaves a table that shows the root's reading, as long as the different readings in it
-  pub table : (id : ℕ) (out work : List ℕ) → m .call ≡ pack id out work → m .left .told .number ≡ 0 → Table now id out (m .left)
+  -- an accepted pack leaves a table that shows the root's reading, as long as the different readings in it and the copies made
+  pub table : (id copies : ℕ) (out work : List ℕ) → m .call ≡ pack id copies out work → m .left .told .number ≡ 0 → Table now id out (m .left)
   unfolding Claim
-  table id out work e z = (rw e at claim) .table z
+  table id copies out work e z = (rw e at claim) .table z
 
   -- what a call on the stores tells is the first of its tests that applies, by the history's counts
   tells : (c : StoreCall) (ts : List Test) → m .call ≡ onStores c → judged needs (asCall bytes words c) now ≡ verdict ts → (k : ℕ) → Exactly (m .left .told .number ≡ k) (Tells ts k)

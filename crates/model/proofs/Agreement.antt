@@ -1,27 +1,29 @@
 -- docs/RULES.md, section 8: every call of a list tells what the history says, whatever the calls are.
-use mathlib.Core.Path.{_≡_, refl, ap, _∙_}
-use Prim.Native.Nat.{ℕ, _<_}
-use mathlib.Core.List.{List, [], _∷_}
+use mathlib.Core.Path.{_≡_, refl, sym, ap, ap₂, _∙_}
+use Prim.Native.Nat.{ℕ, _+_, _<_}
+use mathlib.Core.List.{List, [], _∷_, map, List·Memᴰ, List·Memᴰ·not-nil, List·Memᴰ·cases-cons, Memᴰ·cast}
 use mathlib.Core.Bool.{true, true≢false}
+use mathlib.Core.Logic.{_⊎_, inl, inr}
 use native.Mathlib.Omega.{arith}
-use lib.ListN.{length}
+use lib.ListN.{length, length-map}
 use borrow.Author.Tests.{leb-false, not-false}
 use Rattle.lists.specs.Lists.{pick}
 use Rattle.answer.specs.Number.{number, noTally}
 use Rattle.model.specs.Bag.{count}
 use Rattle.model.specs.Object.{noObject, sizeOf, withBytes, slotOk, newSlot, withLink, hopelessObject}
 use Rattle.model.specs.Graph.{Graph, graphOf, reached}
-use Rattle.model.specs.Table.{Outcome, placed, overflow, arranged, tableLength, tableOf, Sized}
+use Rattle.model.specs.Table.{Outcome, placed, overflow}
+use Rattle.model.specs.Copies.{Arrangement, lengthOf, tableBy}
 use Rattle.model.specs.Reading.{Reading, readingAt, readings}
 use Rattle.model.specs.Judge.{Limits, Verdict, accepted, refused, noTallyBeside, judgeStart, judgeOpen, judgePut, judgeLink, judgeClose, judgeDrop, judgeTally, judgePack}
 use Rattle.model.specs.Told.{doneClose, donePack, refusal}
-use Rattle.model.specs.Session.{Needs, Session, tallyOf, started, withOpens, innermost, outer, onInnermost, twin, sealed, SessionCall, startCall, openCall, putCall, linkCall, closeCall, dropCall, tallyCall, Left, settleCall, step, PackLeft, content, tableIn, settlePack, pack, Call, sessionCall, packCall, afterCall}
-use Rattle.model.specs.History.{History, counts, begun, judged, accept, next, after, idTold, tell, expected, Packed, PackAgrees, Agrees, AllAgree}
+use Rattle.model.specs.Session.{Needs, Session, tallyOf, started, withOpens, innermost, outer, onInnermost, twin, sealed, SessionCall, startCall, openCall, putCall, linkCall, closeCall, dropCall, tallyCall, Left, settleCall, step, PackLeft, content, arrangedIn, settlePack, pack, Call, sessionCall, packCall, afterCall}
+use Rattle.model.specs.History.{History, counts, begun, judged, accept, next, after, idTold, tell, expected, Lengthened, Packed, PackAgrees, Agrees, AllAgree}
+use Rattle.model.proofs.Bags.{one-same}
 use Rattle.model.proofs.Reach.{reached-rooted, reached-low}
-use Rattle.model.proofs.Tables.{layout}
-use Rattle.model.proofs.Readings.{readings-read}
-use Rattle.model.proofs.Lengths.{length-different}
-use Rattle.model.proofs.Outcomes.{placed-arranged}
+use Rattle.model.proofs.Lengths.{total-read, placed-below, length-different}
+use Rattle.model.proofs.Growths.{Base, objects-base, Grew, grew-length, copies-reached}
+use Rattle.model.proofs.Arrangements.{arranged-reads, arranged-laid}
 use Rattle.model.proofs.Verdicts.{passes, beside-number, refused-number}
 use Rattle.model.proofs.Twins.{distinct-id, readings-count}
 use Rattle.model.proofs.Slots.{slot-start}
@@ -71,16 +73,32 @@ module _ (n : Needs) {s : Session} {h : History} (m : Mirrors s h) where
 
 -- ---- pack
 
-module _ {s : Session} {h : History} (m : Mirrors s h) (id : ℕ) where
+-- what holds of the reading of each object of a list
+mapped-in : (ρ : ℕ → Reading) (l : List ℕ) (t : List Reading) → ((i : ℕ) → 0 < count i l → List·Memᴰ (ρ i) t) → (r : Reading) → List·Memᴰ r (map ρ l) → List·Memᴰ r t
+unfolding count
+mapped-in ρ [] t h r m = absurd (List·Memᴰ·not-nil m)
+mapped-in ρ (x ∷ l) t h r m = go (mapped-in ρ l t (λ i k. h i (omega arith)) r) (List·Memᴰ·cases-cons m)
+  where
+    go : (List·Memᴰ r (map ρ l) → List·Memᴰ r t) → (r ≡ ρ x) ⊎ List·Memᴰ r (map ρ l) → List·Memᴰ r t
+    go i (inl e) = Memᴰ·cast e (h x (omega (arith, one-same x)))
+    go i (inr n) = i n
+
+module _ {s : Session} {h : History} (m : Mirrors s h) (id copies : ℕ) where
   abbrev g : Graph
   g = graphOf (s .closed)
 
   abbrev ρ : ℕ → Reading
   ρ i = readingAt (readings (s .closed)) i
 
+  abbrev c : Arrangement
+  c = arrangedIn s id copies
+
   -- an accepted pack that leaves table t
   abbrev packing : List ℕ → PackLeft
-  packing t = record { told = donePack (tableLength g id) (tallyOf s); table = t }
+  packing t = record { told = donePack (lengthOf c) (length (c .grown .copies)) (tallyOf s); table = t }
+
+  base : Base g (content s) ρ (length (s .closed))
+  base = objects-base (s .closed) (mirrors-acyclic m) (mirrors-fields m)
 
   -- reached objects that read the same are the same
   reached-id : id < length (s .closed) → (a b : ℕ) → 0 < count a (reached g id) → 0 < count b (reached g id) → ρ a ≡ ρ b → a ≡ b
@@ -88,27 +106,36 @@ module _ {s : Session} {h : History} (m : Mirrors s h) (id : ℕ) where
       let e = readings-count (s .closed) in
       distinct-id (readings (s .closed)) (m .distinct) a b (omega (arith, reached-low g id a x)) (omega (arith, reached-low g id b y))
 
-  -- the table of an order that fits
-  placed-packed : id < length (s .closed) → (o : List ℕ) → arranged g id ≡ placed o → Packed h id (packing (tableOf g (content s) o))
-  unfolding tableLength
-  placed-packed k o e =
-      let y = mirrors-acyclic m in
-      let a = placed-arranged g id y o e in
+  lengthened : id < length (s .closed) → Grew g id (c .grown) → Lengthened (ρ id) (lengthOf c) (length (c .grown .copies))
+  lengthened k v =
+      let y = base .acyclic in
       let r = reached-rooted g id y in
-      let sized : Sized g (content s) = (unfold Sized in λ i. refl) in
-      let reads = readings-read (s .closed) y in
-      let l = layout g (content s) (reached g id) id ρ o r sized (mirrors-fields m) reads (a .once) (a .first) (a .fit) in
-      rw (← m .read) record { shown = l .shown; long = l .sum; sum = length-different (λ i. i) g (content s) ρ (reached g id) id y r sized reads (reached-id k) }
+      record {
+        made = map ρ (c .grown .copies);
+        each = mapped-in ρ (c .grown .copies) _ (λ i x. placed-below (λ i. i) g (content s) ρ (reached g id) id y r (base .sized) (base .reads) i (copies-reached v i x));
+        count = length-map (c .grown .copies) ρ;
+        sum =
+            grew-length v
+            ∙ ap₂ _+_ (length-different (λ i. i) g (content s) ρ (reached g id) id y r (base .sized) (base .reads) (reached-id k))
+            (sym (total-read g (content s) ρ (base .sized) (base .reads) (c .grown .copies)));
+      }
 
-  pack-agrees : (n : Needs) (out work : ℕ) → PackAgrees h id (pack n id out work s)
+  -- the table of an order in which every link fits
+  placed-packed : id < length (s .closed) → (o : List ℕ) → c .outcome ≡ placed o → Packed h id (packing (tableBy (content s) (c .grown) (placed o)))
+  placed-packed k o e =
+      let v = arranged-reads copies g (length (s .closed)) id base k e .grew in
+      let l = arranged-laid copies g (length (s .closed)) id base k e in
+      rw (← m .read) record { shown = rw (v .root-own) at (l .shown); long = l .sum; sum = lengthened k v }
+
+  pack-agrees : (n : Needs) (out work : ℕ) → PackAgrees h id (pack n id copies out work s)
   unfolding pack
-  pack-agrees n out work = settled-pack (verdictOn (arranged g id)) (tableIn s (arranged g id)) (fits (arranged g id) refl)
+  pack-agrees n out work = settled-pack (verdictOn (c .outcome)) (tableBy (content s) (c .grown) (c .outcome)) (fits (c .outcome) refl)
     where
       verdictOn : Outcome → Verdict
-      verdictOn u = judgePack true (tallyOf s) id work (n .work (s .limits)) out (tableLength g id) u
+      verdictOn u = judgePack true (tallyOf s) id copies work (n .work (s .limits) copies) out (lengthOf c) u
 
-      fits : (u : Outcome) → arranged g id ≡ u → verdictOn u ≡ accepted → Packed h id (packing (tableIn s u))
-      fits (placed o) e v = placed-packed (leb-false (length (s .closed)) id (passes _ v 3)) o e
+      fits : (u : Outcome) → c .outcome ≡ u → verdictOn u ≡ accepted → Packed h id (packing (tableBy (content s) (c .grown) u))
+      fits (placed o) e v = placed-packed (leb-false (length (s .closed)) id (passes _ v 4)) o e
       fits (overflow u) e v = absurd (true≢false (passes _ v 5))
 
       settled-pack : (v : Verdict) (t : List ℕ) → (v ≡ accepted → Packed h id (packing t)) → PackAgrees h id (settlePack v s (packing t))
@@ -124,12 +151,12 @@ module _ (n : Needs) {s : Session} {h : History} (m : Mirrors s h) where
   pub call-agrees : (c : Call) → Agrees n c s h
   unfolding Agrees
   call-agrees (sessionCall c) = step-follows n m c .told
-  call-agrees (packCall id out work) = pack-agrees m id n out work
+  call-agrees (packCall id copies out work) = pack-agrees m id copies n out work
 
   pub call-mirrors : (c : Call) → Mirrors (afterCall n c s) (after n c h)
   unfolding afterCall after
   call-mirrors (sessionCall c) = step-follows n m c .mirrors
-  call-mirrors (packCall id out work) = m
+  call-mirrors (packCall id copies out work) = m
 
 mirrors-agree : (n : Needs) (cs : List Call) {s : Session} {h : History} → Mirrors s h → AllAgree n cs s h
 unfolding AllAgree

@@ -8,17 +8,18 @@ use Rattle.model.specs.Object.{anyHopeless}
 use Rattle.model.specs.Bag.{one, count, without, zerosOf, lastOnce, least}
 use Rattle.model.specs.Graph.{kidsOf, waits, reachDown, reached}
 use Rattle.model.specs.Order.{orderFrom, orderBy}
-use Rattle.model.specs.Distance.{relax, relaxAll, distancesBy, beyond, distance, kahnOrder, distanceOrder}
+use Rattle.model.specs.Distance.{distanceAlong, relax, relaxAll, distancesBy, beyond, distance, kahnOrder, distanceOrder}
 use Rattle.model.specs.Labels.{merged, merge, begun, numbers}
-use Rattle.model.specs.Space.{narrow, narrowOf, nearFrom, near, spot, joinKids, joinAll, labelsBy, spaceOrder}
-use Rattle.model.specs.Table.{before, offset, unfitLinks, unfitFrom, tryOrder, tryLast, firstFit, arranged, tableLength, filled, objectBytes, tableFrom, tableOf}
+use Rattle.model.specs.Space.{narrow, narrowOf, nearFrom, near, spot, joinKids, joinAll, labelsBy, spaceIn}
+use Rattle.model.specs.Table.{before, offset, unfitLinks, unfitFrom, filled, objectBytes, tableFrom, tableOf}
+use Rattle.model.specs.Copies.{grownKey, spaceOrder, tryOrder, resolve, arranged, tableBy}
 use Rattle.model.specs.Judge.{verdict, numberOf}
 use Rattle.model.specs.Session.{step, pack, afterCall}
 use Rattle.model.specs.Cases.{numbersOf, idsOf, countsOf, tablesOf, right, allRight, cases, ends, edges, several}
 use Rattle.model.specs.OrderCases.{right as orderRight, allRight as ordersRight, cases as graphs}
 
 pub cases-right : allRight cases ≡ true
-unfolding allRight right numbersOf idsOf countsOf tablesOf afterCall step pack verdict anyHopeless arranged firstFit tryOrder tryLast unfitFrom unfitLinks offset before tableLength tableOf tableFrom objectBytes filled kahnOrder distanceOrder distance distancesBy beyond relaxAll relax orderBy orderFrom reached reachDown waits kidsOf one count without zerosOf lastOnce least sameList total firstThat over holds bigEndian
+unfolding allRight right numbersOf idsOf countsOf tablesOf afterCall step pack verdict anyHopeless arranged resolve tryOrder spaceOrder grownKey distanceAlong unfitFrom unfitLinks offset before tableBy tableOf tableFrom objectBytes filled kahnOrder distanceOrder distance distancesBy beyond relaxAll relax orderBy orderFrom reached reachDown waits kidsOf one count without zerosOf lastOnce least sameList total firstThat over holds bigEndian
 cases-right = refl
 
 pub ends-right : map numberOf ends ≡ 0 ∷ 0 ∷ 13 ∷ 13 ∷ 13 ∷ 13 ∷ 13 ∷ []
@@ -29,11 +30,11 @@ pub edges-right : map numberOf edges ≡ 0 ∷ 16 ∷ 16 ∷ 0 ∷ 16 ∷ 0 ∷ 
 unfolding verdict anyHopeless
 edges-right = refl
 
--- "link 12, 1, 3, 4, 7, 6", "close 12, 1, 5, 16, 8", "pack 12, 13, 9, 4, 10, 11"
-pub several-right : map (map numberOf) several ≡ (12 ∷ 1 ∷ 3 ∷ 4 ∷ 7 ∷ 6 ∷ []) ∷ (12 ∷ 1 ∷ 5 ∷ 16 ∷ 8 ∷ []) ∷ (12 ∷ 13 ∷ 9 ∷ 4 ∷ 10 ∷ 11 ∷ []) ∷ []
+-- "link 12, 1, 3, 4, 7, 6", "close 12, 1, 5, 16, 8", "pack 12, 13, 9, 4, 11, 10"
+pub several-right : map (map numberOf) several ≡ (12 ∷ 1 ∷ 3 ∷ 4 ∷ 7 ∷ 6 ∷ []) ∷ (12 ∷ 1 ∷ 5 ∷ 16 ∷ 8 ∷ []) ∷ (12 ∷ 13 ∷ 13 ∷ 9 ∷ 4 ∷ 11 ∷ 10 ∷ 0 ∷ []) ∷ []
 unfolding verdict
 several-right = refl
 
 pub graphs-right : ordersRight graphs ≡ true
-unfolding ordersRight orderRight arranged firstFit tryOrder tryLast spaceOrder labelsBy joinAll joinKids spot near nearFrom narrowOf narrow numbers begun merge merged unfitFrom unfitLinks offset before kahnOrder distanceOrder distance distancesBy beyond relaxAll relax orderBy orderFrom reached reachDown waits kidsOf one count without zerosOf lastOnce least sameList total firstThat
+unfolding ordersRight orderRight arranged resolve tryOrder spaceOrder grownKey distanceAlong spaceIn labelsBy joinAll joinKids spot near nearFrom narrowOf narrow numbers begun merge merged unfitFrom unfitLinks offset before kahnOrder distanceOrder distance distancesBy beyond relaxAll relax orderBy orderFrom reached reachDown waits kidsOf one count without zerosOf lastOnce least sameList total firstThat
 graphs-right = refl

@@ -80,7 +80,7 @@ module _ (n : Needs) {r : Reading} {i : ℕ} where
       go : (v : Verdict) → (v ≡ accepted → Known r i (accept c h .closed)) → Known r i (next v (accept c h) h .closed)
       go accepted a = a refl
       go (refused why) a = k
-  known-after (packCall id out work) h s k = k
+  known-after (packCall id copies out work) h s k = k
 
   pub known-all : (cs : List Call) (h : History) → NoStart n cs h → Known r i (h .closed) → Known r i (afterAll n cs h .closed)
   unfolding NoStart afterAll

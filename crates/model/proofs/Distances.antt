@@ -10,7 +10,7 @@ use Rattle.lists.specs.Lists.{total}
 use Rattle.model.specs.Bag.{count}
 use Rattle.model.specs.Object.{Link}
 use Rattle.model.specs.Graph.{Graph, kids, kidsOf, waits, reached, Ranked, Acyclic, Closed, ParentsFirst, Rooted}
-use Rattle.model.specs.Distance.{In, here, there, Path, start, along, Least, weight, relax, relaxAll, distancesBy, beyond, distance}
+use Rattle.model.specs.Distance.{distanceAlong, In, here, there, Path, start, along, Least, weight, relax, relaxAll, distancesBy, beyond, distance}
 use Rattle.model.specs.Table.{before}
 use Rattle.model.proofs.Bags.{Same, same, other, sameOr, one-same, one-eq, total-from, top-of}
 use Rattle.model.proofs.Before.{before-behind, before-most}
@@ -301,7 +301,7 @@ module _ (wt : Link → ℕ) (g : Graph) (nodes : List ℕ) (root : ℕ) (r : Ro
 -- ---- the theorem
 
 pub distance-is-least : (g : Graph) (root : ℕ) → Acyclic g → (c : ℕ) → 0 < count c (reached g root) → Least g (weight g) root c (distance g root c)
-unfolding distance
+unfolding distance distanceAlong
 distance-is-least g root y c h =
     let o = reached g root in
     let r = reached-rooted g root y in

@@ -1,7 +1,7 @@
 -- The sum of the sizes of the objects below a root is that of the different readings among the root's and those below it.
 use mathlib.Core.Path.{_≡_, refl, sym, ap, subst, _∙_}
 use Prim.Native.Nat.{ℕ, _<_}
-use mathlib.Core.List.{List, [], _∷_, _++_, List·Memᴰ, List·Memᴰ·head, List·Memᴰ·tail, List·Memᴰ·not-nil, List·Memᴰ·cases-cons, List·Memᴰ·append-cases, Memᴰ·append-left, Memᴰ·append-right, Memᴰ·cast}
+use mathlib.Core.List.{List, [], _∷_, _++_, map, List·Memᴰ, List·Memᴰ·head, List·Memᴰ·tail, List·Memᴰ·not-nil, List·Memᴰ·cases-cons, List·Memᴰ·append-cases, Memᴰ·append-left, Memᴰ·append-right, Memᴰ·cast}
 use mathlib.Core.Bool.{Bool, true, false, _||_}
 use mathlib.Core.Logic.{_⊎_, inl, inr}
 use native.Mathlib.Omega.{arith}
@@ -104,6 +104,11 @@ module _ (g : Graph) (content : ℕ → List ℕ) (ρ : ℕ → Reading) (sized 
   unfolding Reads Sized
   size-read c = ap (λ (r : Reading). readingSize r) (reads c) ∙ ap length (read-bytes ρ (g .links c) (content c)) ∙ sized c
 
+  pub total-read : (l : List ℕ) → total readingSize (map ρ l) ≡ total (g .size) l
+  unfolding total
+  total-read [] = refl
+  total-read (x ∷ l) = omega (arith, size-read x, total-read l)
+
   -- what is below an object's reading is an object's reading
   pub below-object : (nodes : List ℕ) → Closed g nodes → (r : Reading) (ls : List Link) (b : List ℕ) → r ≡ readLinks ρ ls b → ((c : ℕ) → 0 < count c (kidsOf ls) → 0 < count c nodes)
       → (s : Reading) → Has s (below r) → (c : ℕ) × (0 < count c nodes) × (s ≡ ρ c)
@@ -126,7 +131,7 @@ module _ (g : Graph) (content : ℕ → List ℕ) (ρ : ℕ → Reading) (sized 
           cut (inl f) = (l .child, kx, f ∙ ec)
           cut (inr n) = i n
 
-  pub path-below : (wt : Link → ℕ) (root : ℕ) {c d : ℕ} → Path g wt root c d → Has (ρ c) (ρ root ∷ below (ρ root))
+  path-below : (wt : Link → ℕ) (root : ℕ) {c d : ℕ} → Path g wt root c d → Has (ρ c) (ρ root ∷ below (ρ root))
   unfolding Reads
   path-below wt root (start e _) = List·Memᴰ·head (ap ρ e)
   path-below wt root (along {p = p} {c = c} l w i e _) = List·Memᴰ·tail (go (List·Memᴰ·cases-cons (path-below wt root w)))
@@ -171,12 +176,17 @@ module _ (g : Graph) (content : ℕ → List ℕ) (ρ : ℕ → Reading) (sized 
           cut t (same e _ _) = absurd (n (Memᴰ·cast (q .2 ∙ ap ρ (sym e) ∙ sym (t .2)) h))
           cut t (other _ _ z) = omega (arith, count-without (t .0) (q .0) nodes, t .1)
 
+-- the reading of an object to place is the root's or below it
+pub placed-below : (rank : ℕ → ℕ) (g : Graph) (content : ℕ → List ℕ) (ρ : ℕ → Reading) (nodes : List ℕ) (root : ℕ) → Ranked rank g → Rooted g nodes root → Sized g content → Reads g content ρ
+    → (c : ℕ) → 0 < count c nodes → Has (ρ c) (ρ root ∷ below (ρ root))
+placed-below rank g content ρ nodes root y r sized reads c h = path-below g content ρ sized reads (λ l. 0) root (in-path g (λ l. 0) nodes root r rank y c h .1)
+
 -- where objects that read differently have different ids, the sum of the sizes is that of the different readings
 pub length-different : (rank : ℕ → ℕ) (g : Graph) (content : ℕ → List ℕ) (ρ : ℕ → Reading) (nodes : List ℕ) (root : ℕ) → Ranked rank g → Rooted g nodes root → Sized g content → Reads g content ρ
     → ((a b : ℕ) → 0 < count a nodes → 0 < count b nodes → ρ a ≡ ρ b → a ≡ b) → total (g .size) nodes ≡ total readingSize (different (ρ root ∷ below (ρ root)))
 length-different rank g content ρ nodes root y r sized reads inj =
     sums g content ρ sized reads (different (ρ root ∷ below (ρ root))) (different-apart (ρ root ∷ below (ρ root))) nodes (r .once) inj
-    (λ c h. different-has (ρ c) _ (path-below g content ρ sized reads (λ l. 0) root (in-path g (λ l. 0) nodes root r rank y c h .1)))
+    (λ c h. different-has (ρ c) _ (placed-below rank g content ρ nodes root y r sized reads c h))
     (λ s h. from s (List·Memᴰ·cases-cons (different-from s (ρ root ∷ below (ρ root)) h)))
   where
     from : (s : Reading) → (s ≡ ρ root) ⊎ Has s (below (ρ root)) → (c : ℕ) × (0 < count c nodes) × (s ≡ ρ c)

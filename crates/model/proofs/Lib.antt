@@ -15,7 +15,13 @@ pub mod Tables
 pub mod Readings
 pub mod SameReading
 pub mod Lengths
-pub mod Outcomes
+pub mod Beside
+pub mod Redirects
+pub mod Copies
+pub mod Reports
+pub mod Growths
+pub mod Resolving
+pub mod Arrangements
 pub mod Slots
 pub mod Always
 pub mod Hopeless
@@ -31,3 +37,4 @@ pub mod Written
 pub mod Refused
 pub mod Cases
 pub mod SpaceCases
+pub mod CopyCases

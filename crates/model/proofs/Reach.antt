@@ -2,8 +2,10 @@
 use mathlib.Core.Path.{_≡_, refl}
 use Prim.Native.Nat.{ℕ, zero, suc, _+_, _≤_, _<_}
 use mathlib.Core.List.{List, [], _∷_, _++_}
+use mathlib.Core.Bool.{Bool, true, false}
 use native.Mathlib.Omega.{arith}
 use native.Mathlib.Decide.{decLe}
+use lib.ListN.{length}
 use lib.Dec.{eqb}
 use Rattle.lists.specs.Lists.{pick, total}
 use Rattle.model.specs.Bag.{count}
@@ -115,3 +117,17 @@ reached-first g y root = down-first g y (suc root) (root ∷ [])
 pub reached-low : (g : Graph) (root c : ℕ) → 0 < count c (reached g root) → c < suc root
 unfolding reached
 reached-low g root c h = down-below g (suc root) (root ∷ []) c h
+
+down-few : (g : Graph) (n : ℕ) (marks : List ℕ) → length (reachDown g n marks) ≤ n
+unfolding reachDown
+down-few g zero marks = omega arith
+down-few g (suc i) marks = go (eqb (count i marks) 0) (down-few g i marks) (down-few g i (kids g i ++ marks))
+  where
+    go : (b : Bool) → length (reachDown g i marks) ≤ i → length (reachDown g i (kids g i ++ marks)) ≤ i
+        → length (pick b (reachDown g i marks) (i ∷ reachDown g i (kids g i ++ marks))) ≤ suc i
+    go true a b = omega arith
+    go false a b = omega arith
+
+pub reached-few : (g : Graph) (root : ℕ) → length (reached g root) ≤ suc root
+unfolding reached
+reached-few g root = down-few g (suc root) (root ∷ [])

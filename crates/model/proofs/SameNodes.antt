@@ -1,6 +1,6 @@
 -- An order depends on which nodes are placed and on their keys, not on the list that they are given in.
 use mathlib.Core.Path.{_≡_, refl, sym, ap, fun-ext, _∙_}
-use Prim.Native.Nat.{ℕ, zero, suc, _+_, _*_, _<_}
+use Prim.Native.Nat.{ℕ, zero, suc, _+_, _<_}
 use mathlib.Core.List.{List, [], _∷_}
 use mathlib.Core.Bool.{Bool, true, false}
 use native.Mathlib.Omega.{arith}
@@ -11,7 +11,6 @@ use Rattle.model.specs.Bag.{count, without, least}
 use Rattle.model.specs.Graph.{Graph, kids, waits, reached, Acyclic, Closed, Once, Rooted}
 use Rattle.model.specs.Order.{orderFrom, orderOf, orderBy}
 use Rattle.model.specs.Distance.{Least, weight, distance, distanceOrder}
-use Rattle.model.specs.Space.{spaceOf, spaceWeight, spaceOrder}
 use Rattle.model.proofs.Bags.{Same, same, other, sameOr, Zero, none, some, zeroOr, one-same, count-without, least-in, bag-long, total-from}
 use Rattle.model.proofs.Waits.{waits-bag}
 use Rattle.model.proofs.Reach.{reached-rooted}
@@ -87,7 +86,7 @@ module _ (key also : ℕ → ℕ) where
   order-agree {g} {l} {root} r m b h =
       rw (← bag-long l m b) (from-agree g (length l) l m (root ∷ []) (rooted-inv g l root r) b h)
 
--- ---- the orders by distances: by any least sums
+-- ---- the shortest-distance order: by any least sums
 
 module _ (g : Graph) (root : ℕ) (y : Acyclic g) (sum : ℕ → ℕ) (sums : (c : ℕ) → 0 < count c (reached g root) → Least g (weight g) root c (sum c)) where
   sum-distance : (c : ℕ) → 0 < count c (reached g root) → sum c ≡ distance g root c
@@ -96,9 +95,3 @@ module _ (g : Graph) (root : ℕ) (y : Acyclic g) (sum : ℕ → ℕ) (sums : (c
   pub distance-order : orderOf sum g (reached g root) root ≡ distanceOrder g root
   unfolding distanceOrder orderBy
   distance-order = order-agree sum (distance g root) (reached-rooted g root y) (reached g root) (λ c. refl) sum-distance
-
-  pub space-order : (space : ℕ → ℕ) → ((c : ℕ) → 0 < count c (reached g root) → space c ≡ spaceOf g (distanceOrder g root) root c)
-      → orderOf (λ i. sum i + space i * spaceWeight) g (reached g root) root ≡ spaceOrder g root
-  unfolding spaceOrder orderBy
-  space-order space numbers =
-      order-agree (λ i. sum i + space i * spaceWeight) _ (reached-rooted g root y) (reached g root) (λ c. refl) (λ c h. rw (sum-distance c h, numbers c h))

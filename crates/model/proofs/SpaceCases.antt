@@ -5,12 +5,13 @@ use Rattle.lists.specs.Lists.{sameList, total, firstThat}
 use Rattle.model.specs.Bag.{one, count, without, zerosOf, lastOnce, least}
 use Rattle.model.specs.Graph.{kidsOf, waits, reachDown, reached}
 use Rattle.model.specs.Order.{orderFrom, orderBy}
-use Rattle.model.specs.Distance.{relax, relaxAll, distancesBy, beyond, distance, kahnOrder, distanceOrder}
-use Rattle.model.specs.Table.{before, offset, unfitLinks, unfitFrom, tryOrder, tryLast, firstFit, arranged}
+use Rattle.model.specs.Distance.{distanceAlong, relax, relaxAll, distancesBy, beyond, distance, kahnOrder, distanceOrder}
+use Rattle.model.specs.Table.{before, offset, unfitLinks, unfitFrom}
 use Rattle.model.specs.Labels.{merged, merge, begun, numbers}
-use Rattle.model.specs.Space.{narrow, narrowOf, nearFrom, near, spot, joinKids, joinAll, labelsBy, spaceOrder}
+use Rattle.model.specs.Space.{narrow, narrowOf, nearFrom, near, spot, joinKids, joinAll, labelsBy, spaceIn}
+use Rattle.model.specs.Copies.{grownKey, spaceOrder, tryOrder, resolve, arranged}
 use Rattle.model.specs.SpaceCases.{right, allRight, cases}
 
 pub spaces-right : allRight cases ≡ true
-unfolding allRight right arranged firstFit tryOrder tryLast kahnOrder spaceOrder labelsBy joinAll joinKids spot near nearFrom narrowOf narrow numbers begun merge merged unfitFrom unfitLinks offset before distanceOrder distance distancesBy beyond relaxAll relax orderBy orderFrom reached reachDown waits kidsOf one count without zerosOf lastOnce least sameList total firstThat
+unfolding allRight right arranged resolve tryOrder spaceOrder grownKey distanceAlong kahnOrder spaceIn labelsBy joinAll joinKids spot near nearFrom narrowOf narrow numbers begun merge merged unfitFrom unfitLinks offset before distanceOrder distance distancesBy beyond relaxAll relax orderBy orderFrom reached reachDown waits kidsOf one count without zerosOf lastOnce least sameList total firstThat
 spaces-right = refl

@@ -10,8 +10,8 @@ use Rattle.big_endian.specs.BigEndian.{bigEndian}
 use Rattle.big_endian.proofs.Laws.{length-big}
 use Rattle.model.specs.Bag.{count}
 use Rattle.model.specs.Object.{Link}
-use Rattle.model.specs.Graph.{kidsOf, Once}
-use Rattle.model.specs.Table.{before, offset, filled, FieldsIn}
+use Rattle.model.specs.Graph.{Graph, kidsOf, Once}
+use Rattle.model.specs.Table.{before, offset, filled, objectBytes, tableFrom, FieldsIn}
 use Rattle.model.proofs.Bags.{one-same, one-eq}
 use Rattle.model.proofs.Before.{before-here, before-next}
 use Rattle.model.proofs.Filled.{wrote, length-wrote, length-filled}
@@ -52,3 +52,9 @@ before-at f (x ∷ o) (suc t) a h =
     let y : ℕ = getD o t 0 in
     let n : y ≡ x → ⊥ = λ e. omega (arith, a y, count-at o t (omega arith), one-eq y x e) in
     omega (arith, before-next f x o y n, before-at f o t (λ c. omega (arith, a c)) (omega arith))
+
+-- the bytes of the objects of an order alone count
+pub table-same : (g : Graph) (content also : ℕ → List ℕ) (place : ℕ → ℕ) (o : List ℕ) → ((i : ℕ) → 0 < count i o → content i ≡ also i) → tableFrom g content place o ≡ tableFrom g also place o
+unfolding tableFrom objectBytes count
+table-same g content also place [] h = refl
+table-same g content also place (x ∷ o) h = rw (h x (omega (arith, one-same x)), table-same g content also place o (λ i k. h i (omega arith)))

@@ -22,7 +22,7 @@ use Rattle.order_spaces.proofs.Kids.{kids-all, kids-none, kid-narrow, k
 
 pub record Clearing (a : Areas) (n i t : ℕ) (w₀ w : List ℕ) : Type 0 where
   pub some : t ≤ linkCount a (take (a .keys) w₀) i
-  pub kept : Kept (a .spots) (a .spaces) w₀ w
+  pub kept : Kept (a .spots) (a .waiting) w₀ w
   pub left : cleared (narrowKids (graphOn a n w₀) i) (spotsIn a w₀) ≡ cleared (narrowOf (linksAfter a (take (a .keys) w₀) i t)) (spotsIn a w)
 
 module _ {a : Areas} {n i : ℕ} {w₀ : List ℕ} (s : AtNode a n i w₀) where
@@ -45,7 +45,7 @@ module _ {a : Areas} {n i : ℕ} {w₀ : List ℕ} (s : AtNode a n i w₀) where
       clearing-narrow e =
           record {
             some = omega arith;
-            kept = kept-then (c .kept) (kept-set (a .spots) (a .spaces) w (a .spots + child) 0 (omega arith) (omega (arith, here .known)));
+            kept = kept-then (c .kept) (kept-set (a .spots) (a .waiting) w (a .spots + child) 0 (omega arith) (omega (arith, here .known)));
             left = c .left ∙ rw (kid-narrow here h e, cleared, region-in (a .spots) (a .nodes) w child 0 (omega (arith, here .known)));
           }
 
@@ -57,7 +57,7 @@ module _ {a : Areas} {n i : ℕ} {w₀ : List ℕ} (s : AtNode a n i w₀) where
 
 pub record Passing (a : Areas) (n r t : ℕ) (w₀ w : List ℕ) : Type 0 where
   pub some : t ≤ r
-  pub kept : Kept (a .spots) (a .spaces) w₀ w
+  pub kept : Kept (a .spots) (a .waiting) w₀ w
   pub left :
       clearedAll (graphOn a n w₀) (orderIn a r w₀) (spotsIn a w₀) ≡ clearedAll (graphOn a n w₀) (drop t (orderIn a r w₀)) (spotsIn a w)
 

@@ -10,7 +10,7 @@ use borrow.Author.Tests.{eq-eqb, ne-eqb}
 use Rattle.regions.specs.Region.{ceiling, Kept, Filling}
 use Rattle.regions.proofs.Laws.{region-length, region-at, region-in}
 use Rattle.regions.proofs.Bounds.{ceiling-set, ceiling-replicate}
-use Rattle.regions.proofs.Frame.{kept-all, kept-then, kept-set, kept-less, kept-above}
+use Rattle.regions.proofs.Frame.{kept-all, kept-then, kept-set, kept-less, kept-below}
 use Rattle.model.specs.Labels.{begun, numbers, Settled}
 use Rattle.model.proofs.Bags.{Same, same, other, sameOr}
 use Rattle.model.proofs.Labels.{begun-own, begun-other, begun-low, begun-rises, number-at}
@@ -19,7 +19,7 @@ use Rattle.work.specs.declared.Areas.{Areas}
 use Rattle.order_merge.specs.Bosses.{roots}
 use Rattle.order_merge.proofs.Roots.{Rooted, rooted-settled, roots-rooted}
 use Rattle.order_spaces.specs.Spaces.{numberBy, Ordered, Bossed, Numbering, NumberedAlong}
-use Rattle.order_spaces.proofs.Frames.{ordered-kept, order-kept, node-is, node-in, order-other}
+use Rattle.order_spaces.proofs.Frames.{ordered-behind, order-behind, node-is, node-in, order-other}
 
 -- ---- the number of one position
 
@@ -48,7 +48,7 @@ module _ {a : Areas} {n r t : ℕ} {w : List ℕ} (h : t < r) (s : Bossed a n r 
 
 pub record Counting (a : Areas) (r t next : ℕ) (w₀ w : List ℕ) : Type 0 where
   pub some : t ≤ r
-  pub kept : Kept (a .spaces) (a .bosses) w₀ w
+  pub kept : Kept (a .spaces) (a .origins) w₀ w
   pub count : next ≡ begun (roots (bossesIn a r w₀)) t
   pub low : next ≤ t
   pub small : ceiling (spacesIn a w) ≤ r
@@ -77,13 +77,13 @@ module _ {a : Areas} {n r : ℕ} {w₀ : List ℕ} (s : Numbering a n r w₀) wh
 
   module _ {t next : ℕ} {w : List ℕ} (c : Counting a r t next w₀ w) where
     ordered : Ordered a n r w
-    ordered = ordered-kept (s .bossed .ordered) (c .kept) (omega arith) (omega arith)
+    ordered = ordered-behind (s .bossed .ordered) (c .kept) (omega arith) (omega arith)
 
     bosses-are : bossesIn a r w ≡ bosses
-    bosses-are = kept-above (c .kept) (a .bosses) r (omega arith)
+    bosses-are = kept-below (c .kept) (a .bosses) r (omega arith)
 
     nodes-are : orderIn a r w ≡ nodes
-    nodes-are = order-kept (s .bossed .ordered) (c .kept) (omega arith) (omega arith)
+    nodes-are = order-behind (s .bossed .ordered) (c .kept) (omega arith) (omega arith)
 
     pub counting-asks : Bossed a n r w
     counting-asks = record { ordered = ordered; falls = rw bosses-are (s .bossed .falls) }
@@ -113,7 +113,7 @@ module _ {a : Areas} {n r : ℕ} {w₀ : List ℕ} (s : Numbering a n r w₀) wh
             let z = region-in (a .spaces) (a .nodes) w node v counting-in in
             record {
               some = omega arith;
-              kept = kept-then (c .kept) (kept-set (a .spaces) (a .bosses) w (a .spaces + node) v (omega arith) (omega (arith, counting-in)));
+              kept = kept-then (c .kept) (kept-set (a .spaces) (a .origins) w (a .spaces + node) v (omega arith) (omega (arith, counting-in)));
               count = q;
               low = omega (arith, q, begun-low labels (t + 1));
               small = rw z (omega (arith, ceiling-set (spacesIn a w) node v, c .small, value, begun-low labels (getD labels t 0), settled .low t));
@@ -145,17 +145,17 @@ module _ {a : Areas} {n r : ℕ} {w₀ : List ℕ} (s : Numbering a n r w₀) wh
 -- ---- from words that are all 0
 
 module _ {a : Areas} {n r : ℕ} {w w₁ : List ℕ} (s : Bossed a n r w) (f : Filling (a .spaces) (a .nodes) 0 (a .nodes) w w₁) where
-  filled : Kept (a .spaces) (a .bosses) w w₁
-  filled = kept-less (f .kept) (a .spaces) (a .bosses) (omega arith) (omega arith)
+  filled : Kept (a .spaces) (a .origins) w w₁
+  filled = kept-less (f .kept) (a .spaces) (a .origins) (omega arith) (omega arith)
 
   bosses-same : bossesIn a r w₁ ≡ bossesIn a r w
-  bosses-same = kept-above filled (a .bosses) r (omega arith)
+  bosses-same = kept-below filled (a .bosses) r (omega arith)
 
   pub numbers-asks : Numbering a n r w₁
   numbers-asks =
       let z : ceiling (spacesIn a w₁) ≤ 1 = rw (f .done) (ceiling-replicate (a .nodes) 0) in
       record {
-        bossed = record { ordered = ordered-kept (s .ordered) filled (omega arith) (omega arith); falls = rw bosses-same (s .falls) };
+        bossed = record { ordered = ordered-behind (s .ordered) filled (omega arith) (omega arith); falls = rw bosses-same (s .falls) };
         small = omega (arith, z, s .ordered .some);
       }
 
@@ -164,5 +164,5 @@ module _ {a : Areas} {n r : ℕ} {w w₁ : List ℕ} (s : Bossed a n r w) (f : F
       record {
         kept = kept-then filled (c .kept);
         small = c .small;
-        numbers = rw (order-kept (s .ordered) filled (omega arith) (omega arith), bosses-same) at (c .numbers);
+        numbers = rw (order-behind (s .ordered) filled (omega arith) (omega arith), bosses-same) at (c .numbers);
       }

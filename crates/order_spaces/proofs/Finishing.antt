@@ -118,10 +118,11 @@ module _ {a : Areas} {n r root : ℕ} {w : List ℕ} (s : Spacing a n r root w) 
       spaced c =
           let p = s .graph .apart in
           record {
+            between = w₂;
             kept =
                 kept-then (kept-less (m .kept) (a .spots) (a .order) (omega arith) (omega (arith, p)))
-                (kept-then (kept-less (j .kept) (a .spots) (a .order) (omega (arith, p)) (omega arith))
-                (kept-less (c .kept) (a .spots) (a .order) (omega (arith, p)) (omega (arith, p))));
+                (kept-less (j .kept) (a .spots) (a .order) (omega (arith, p)) (omega arith));
+            only = c .kept;
             small = c .small;
             numbers = λ x h. rw (order₂, spot-at nodes x h, labels-are) at (c .numbers (spot nodes x) (omega (arith, spot-in nodes x h, nodes-long)));
           }

@@ -1,4 +1,4 @@
--- The order stands while the words in front of it change; its nodes one by one.
+-- The order stands while the words in front of it or behind it change; its nodes one by one.
 use mathlib.Core.Path.{_≡_, sym, ap, _∙_}
 use Prim.Native.Nat.{ℕ, _+_, _≤_, _<_}
 use mathlib.Core.List.{List, [], _∷_}
@@ -8,7 +8,7 @@ use Rattle.lists.proofs.Runs.{drop-first}
 use Rattle.regions.specs.Region.{Kept}
 use Rattle.regions.proofs.Laws.{region-length, region-at}
 use Rattle.regions.proofs.Bounds.{ceiling-at}
-use Rattle.regions.proofs.Frame.{kept-above}
+use Rattle.regions.proofs.Frame.{kept-below, kept-above}
 use Rattle.model.specs.Space.{spot}
 use Rattle.model.proofs.Spots.{at-spot}
 use Rattle.work.specs.Views.{orderIn}
@@ -16,19 +16,23 @@ use Rattle.work.specs.declared.Areas.{Areas}
 use Rattle.order_graph.proofs.Links.{stands-kept}
 use Rattle.order_spaces.specs.Spaces.{Ordered}
 
-module _ {a : Areas} {n r x y : ℕ} {w w′ : List ℕ} (o : Ordered a n r w) (k : Kept x y w w′) (h : a .keys ≤ x) (l : y ≤ a .order) where
-  pub order-kept : orderIn a r w′ ≡ orderIn a r w
-  order-kept = kept-above k (a .order) r l
+module _ {a : Areas} {n r x y : ℕ} {w w′ : List ℕ} (o : Ordered a n r w) (k : Kept x y w w′) (h : a .keys ≤ x) where
+  same-ordered : orderIn a r w′ ≡ orderIn a r w → Ordered a n r w′
+  same-ordered e = record { graph = stands-kept (o .graph) k h; some = o .some; few = o .few; ids = rw e (o .ids); once = rw e (o .once) }
 
-  pub ordered-kept : Ordered a n r w′
-  ordered-kept =
-      record {
-        graph = stands-kept (o .graph) k h;
-        some = o .some;
-        few = o .few;
-        ids = rw order-kept (o .ids);
-        once = rw order-kept (o .once);
-      }
+  module _ (l : y ≤ a .order) where
+    pub order-kept : orderIn a r w′ ≡ orderIn a r w
+    order-kept = kept-above k (a .order) r l
+
+    pub ordered-kept : Ordered a n r w′
+    ordered-kept = same-ordered order-kept
+
+  module _ (l : a .incoming ≤ x) where
+    pub order-behind : orderIn a r w′ ≡ orderIn a r w
+    order-behind = kept-below k (a .order) r (omega (arith, o .graph .apart, o .few))
+
+    pub ordered-behind : Ordered a n r w′
+    ordered-behind = same-ordered order-behind
 
 module _ {a : Areas} {n r : ℕ} {w : List ℕ} (o : Ordered a n r w) where
   pub order-long : length (orderIn a r w) ≡ r

@@ -15,7 +15,7 @@ use Rattle.order_spaces.proofs.Frames.{ordered-kept, order-kept, node-i
 -- t of them are stored
 pub record Spotting (a : Areas) (r t : ℕ) (w₀ w : List ℕ) : Type 0 where
   pub some : t ≤ r
-  pub kept : Kept (a .spots) (a .spaces) w₀ w
+  pub kept : Kept (a .spots) (a .waiting) w₀ w
   pub left : spotsFrom (orderIn a r w₀) 0 (spotsIn a w₀) ≡ spotsFrom (drop t (orderIn a r w₀)) t (spotsIn a w)
 
 pub spotting-none : (a : Areas) (r : ℕ) (w : List ℕ) → Spotting a r 0 w w
@@ -37,7 +37,7 @@ module _ {a : Areas} {n r t : ℕ} {w₀ w : List ℕ} (o : Ordered a n r w₀) 
     spotting-next =
         record {
           some = omega arith;
-          kept = kept-then (s .kept) (kept-set (a .spots) (a .spaces) w (a .spots + node) t (omega arith) (omega (arith, spotting-in)));
+          kept = kept-then (s .kept) (kept-set (a .spots) (a .waiting) w (a .spots + node) t (omega arith) (omega (arith, spotting-in)));
           left =
               s .left
               ∙ rw (← order-kept o (s .kept) (omega arith) (omega arith), order-rest now t h, spotsFrom, region-in (a .spots) (a .nodes) w node t spotting-in);
@@ -50,8 +50,8 @@ module _ {a : Areas} {n r t : ℕ} {w₀ w : List ℕ} (o : Ordered a n r w₀) 
 -- ---- from words that are all 0
 
 module _ {a : Areas} {n r : ℕ} {w w₁ : List ℕ} (o : Ordered a n r w) (f : Filling (a .spots) (a .nodes) 0 (a .nodes) w w₁) where
-  filled : Kept (a .spots) (a .spaces) w w₁
-  filled = kept-less (f .kept) (a .spots) (a .spaces) (omega arith) (omega arith)
+  filled : Kept (a .spots) (a .waiting) w w₁
+  filled = kept-less (f .kept) (a .spots) (a .waiting) (omega arith) (omega arith)
 
   pub spots-asks : Ordered a n r w₁
   spots-asks = ordered-kept o filled (omega arith) (omega arith)

@@ -91,7 +91,7 @@ module _ {a : Areas} {n root : ℕ} {w₀ : List ℕ} (s : Lining a n root w₀)
     unfolding lined
     falls-all h =
         let e : i ≡ 0 = omega arith in
-        record { kept = f .kept; few = omega arith; ids = f .ids; found = sym (f .left ∙ rw (e, lined)) }
+        record { kept = f .kept; few = omega arith; ids = f .ids; found = sym (f .left ∙ rw (e, lined)); small = omega (arith, f .small, s .node .inside, s .node .graph .tidy) }
 
 -- ---- the start: the root counts as led to
 
@@ -121,4 +121,5 @@ module _ {a : Areas} {n root : ℕ} {w w₁ : List ℕ} (s : AtNode a n root w) 
         few = u .few;
         ids = u .ids;
         found = u .found ∙ rw (counts-begun, front-kept (s .graph) kept-begun (omega arith));
+        small = rw counts-begun at (u .small);
       }

@@ -19,7 +19,7 @@ counted-long [] cs = refl
 counted-long (l ∷ ls) cs = counted-long ls _ ∙ length-set cs (l .child) _
 
 -- one field
-counted-one : (cs : List ℕ) (x c : ℕ) → x < length cs → getD (set cs x (getD cs x 0 + 1)) c 0 ≡ one c x + getD cs c 0
+pub counted-one : (cs : List ℕ) (x c : ℕ) → x < length cs → getD (set cs x (getD cs x 0 + 1)) c 0 ≡ one c x + getD cs c 0
 counted-one cs x c h = go (sameOr c x)
   where
     go : Same c x → getD (set cs x (getD cs x 0 + 1)) c 0 ≡ one c x + getD cs c 0
@@ -27,7 +27,7 @@ counted-one cs x c h = go (sameOr c x)
     go (other n _ o) = rw o (getD-set-other cs x c _ 0 n ∙ omega arith)
 
 -- the fields of one node
-counted-at : (ls : List Link) (cs : List ℕ) → ((c : ℕ) → 0 < count c (kidsOf ls) → c < length cs) → (c : ℕ)
+pub counted-at : (ls : List Link) (cs : List ℕ) → ((c : ℕ) → 0 < count c (kidsOf ls) → c < length cs) → (c : ℕ)
     → getD (countedAll ls cs) c 0 ≡ count c (kidsOf ls) + getD cs c 0
 unfolding countedAll kidsOf count
 counted-at [] cs h c = omega arith

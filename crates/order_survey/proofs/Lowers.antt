@@ -25,7 +25,7 @@ getD-inside (x ∷ l) (suc i) d e h = getD-inside l i d e (omega arith)
 -- t links of node i are taken up
 pub record Lowers (a : Areas) (n i d t : ℕ) (w₀ w : List ℕ) : Type 0 where
   pub some : t ≤ linkCount a (take (a .keys) w₀) i
-  pub kept : Kept (a .distances) (a .end) w₀ w
+  pub kept : Kept (a .distances) (a .spaces) w₀ w
   pub left :
       relax farAway (weight (graphOn a n w₀)) d (graphOn a n w₀ .links i) (distancesIn a w₀)
       ≡ relax farAway (weight (graphOn a n w₀)) d (linksAfter a (take (a .keys) w₀) i t) (distancesIn a w)
@@ -51,7 +51,7 @@ module _ {a : Areas} {n i d : ℕ} {w₀ : List ℕ} (s : Lowering a n i d w₀)
         let z = region-in (a .distances) (a .nodes) w x v (omega arith) in
         record {
           some = omega arith;
-          kept = kept-then (f .kept) (kept-set (a .distances) (a .end) w (a .distances + x) v (omega arith) (omega arith));
+          kept = kept-then (f .kept) (kept-set (a .distances) (a .spaces) w (a .distances + x) v (omega arith) (omega arith));
           left = f .left ∙ rw (links-next a (take (a .keys) w₀) i t h, relax, ← e₀ .weight-is, ← e₀ .child-is, z, far);
           bound = rw (z, near) (omega (arith, ceiling-least ds x (d + y)));
         }
@@ -69,7 +69,7 @@ module _ {a : Areas} {n i d : ℕ} {w₀ : List ℕ} (s : Lowering a n i d w₀)
 -- t nodes of the line are done
 pub record Follows (a : Areas) (n r t : ℕ) (w₀ w : List ℕ) : Type 0 where
   pub some : t ≤ r
-  pub kept : Kept (a .distances) (a .end) w₀ w
+  pub kept : Kept (a .distances) (a .spaces) w₀ w
   pub left :
       relaxAll farAway (weight (graphOn a n w₀)) (graphOn a n w₀) (lineIn a r w₀) (distancesIn a w₀)
       ≡ relaxAll farAway (weight (graphOn a n w₀)) (graphOn a n w₀) (drop t (lineIn a r w₀)) (distancesIn a w)
@@ -132,10 +132,10 @@ module _ {a : Areas} {n root r : ℕ} {w w₁ : List ℕ} (s : Along a n r w) (h
   abbrev begun : List ℕ
   begun = set w₁ (a .distances + root) 0
 
-  kept-begun : Kept (a .distances) (a .end) w begun
+  kept-begun : Kept (a .distances) (a .spaces) w begun
   kept-begun =
-      kept-then (kept-less (f .kept) (a .distances) (a .end) (omega arith) (omega arith))
-      (kept-set (a .distances) (a .end) w₁ (a .distances + root) 0 (omega arith) (omega arith))
+      kept-then (kept-less (f .kept) (a .distances) (a .spaces) (omega arith) (omega arith))
+      (kept-set (a .distances) (a .spaces) w₁ (a .distances + root) 0 (omega arith) (omega arith))
 
   distances-begun : distancesIn a begun ≡ set (replicate (a .nodes) farAway) root 0
   distances-begun = region-in (a .distances) (a .nodes) w₁ root 0 (omega arith) ∙ rw (f .done)

@@ -3,10 +3,11 @@ use mathlib.Core.Path.{_≡_, sym, ap, _∙_}
 use Prim.Native.Nat.{ℕ, _+_, _≤_, _<_}
 use mathlib.Core.List.{List}
 use native.Mathlib.Omega.{arith}
-use lib.ListN.{getD, set, take}
+use lib.ListN.{getD, set, take, replicate}
 use lib.Seq.{getD-set-same, getD-set-other}
 use Rattle.lists.specs.Lists.{total}
 use Rattle.regions.specs.Region.{Kept}
+use Rattle.regions.proofs.Bounds.{ceiling-set, ceiling-replicate}
 use Rattle.regions.proofs.Laws.{region-length, region-in, region-over}
 use Rattle.regions.proofs.Frame.{kept-then, kept-set, kept-below, kept-above}
 use Rattle.model.specs.Bag.{one, count}
@@ -78,6 +79,9 @@ module _ {a : Areas} {n root r : ℕ} {w w₁ : List ℕ} (s : AtNode a n root w
             counted = record { rooted = rw front (reached-rooted graph root y); incoming = λ c. rw front (incoming c) };
           };
           size = e ∙ rw (front, line);
+          small =
+              rw (region-in (a .incoming) (a .nodes) w₁ root 0 room)
+              (omega (arith, ceiling-set (incomingIn a w₁) root 0, f .small, ceiling-set (replicate (a .nodes) 0) root 1, ceiling-replicate (a .nodes) 0));
         }
 
 -- ---- the distances along a line
@@ -102,7 +106,7 @@ module _ {a : Areas} {n root r : ℕ} {w : List ℕ} (s : Lines a n root r w) wh
 
 -- ---- what was found holds as long as the graph and the words found stand
 
-surveyed-same : {a : Areas} {n root from to : ℕ} {nodes w w′ : List ℕ} → Surveyed a n root nodes w → Kept from to w w′ → a .keys ≤ from → incomingIn a w′ ≡ incomingIn a w
+pub surveyed-same : {a : Areas} {n root from to : ℕ} {nodes w w′ : List ℕ} → Surveyed a n root nodes w → Kept from to w w′ → a .keys ≤ from → incomingIn a w′ ≡ incomingIn a w
     → Surveyed a n root nodes w′
 surveyed-same s k h e =
     record {

@@ -1,5 +1,5 @@
 -- What the test of a graph's words tells, and that the graph stands where they are loaded.
-use mathlib.Core.Path.{_≡_, refl}
+use mathlib.Core.Path.{_≡_, refl, _∙_}
 use Prim.Native.Nat.{ℕ, zero, suc, _+_, _-_, _*_, _^_, _≤_, _<_}
 use mathlib.Core.List.{List, _++_}
 use mathlib.Core.Bool.{Bool, true, false, _&&_}
@@ -8,18 +8,18 @@ use lib.ListN.{length, getD, take, length-append}
 use lib.Dec.{eqb, ltb, leb}
 use borrow.Author.Tests.{ltb-true, leb-true, eqb-true, eqb-false}
 use Rattle.lists.proofs.Same.{and-left, and-right}
-use Rattle.regions.proofs.Frame.{kept-then, kept-less, kept-above}
+use Rattle.regions.proofs.Frame.{kept-then, kept-less, kept-below, kept-above}
 use Rattle.model.specs.Object.{widthOk}
 use Rattle.model.specs.Graph.{Ranked, Acyclic}
 use Rattle.model.proofs.Distances.{kid-link}
-use Rattle.work.specs.Areas.{areasOf, workNeed, graphWords, areas-apart}
+use Rattle.work.specs.Areas.{areasOf, graphWords, areas-apart}
 use Rattle.work.specs.Packed.{packedWords}
 use Rattle.work.specs.declared.Areas.{Areas}
 use Rattle.order_graph.specs.Graph.{graphIn, linkOf, linksAt, linkCount, mostNodes, mostNodeLinks, mostSize, Tidy, Stands}
 use Rattle.order_graph.proofs.Links.{front-kept, stands-kept}
 use Rattle.order_survey.specs.Survey.{Measured, Lines, DistancesFound}
 use Rattle.order_survey.proofs.Distances.{node-links}
-use Rattle.order_survey.proofs.Surveys.{surveyed-kept, surveyed-found}
+use Rattle.order_survey.proofs.Surveys.{surveyed-kept, surveyed-same, surveyed-found}
 use Rattle.order_spaces.specs.Spaces.{Spacing, Spaced}
 use Rattle.order_fit.specs.Fit.{Placing}
 use Rattle.order_fit.specs.declared.Look.{Look}
@@ -69,18 +69,18 @@ node-told a f i e =
 pub record Told (p k : ℕ) (f : List ℕ) : Type 0 where
   pub some : 0 < p
   pub size : length f ≡ graphWords p k
-  pub room : workNeed p k ≤ space
-  pub tidy : Tidy (areasOf p k) p f
-  pub falls : Acyclic (graphIn (areasOf p k) p f)
+  pub room : areasOf p k 0 .end ≤ space
+  pub tidy : Tidy (areasOf p k 0) p f
+  pub falls : Acyclic (graphIn (areasOf p k 0) p f)
 
 pub told : (p k : ℕ) (f : List ℕ) → given p k f ≡ true → Told p k f
 unfolding Ranked
 told p k f e =
-    let a = areasOf p k in
+    let a = areasOf p k 0 in
     let (some, e₁) = both (ltb 0 p) _ e in
     let (limit, e₂) = both (leb p mostNodes) _ e₁ in
     let (size, e₃) = both (eqb (length f) (graphWords p k)) _ e₂ in
-    let (room, nodes) = both (leb (workNeed p k) space) _ e₃ in
+    let (room, nodes) = both (leb (areasOf p k 0 .end) space) _ e₃ in
     let node : (i : ℕ) → i < p → Node a f i = λ i h. node-told a f i (below-at p (tidyNode a f) nodes i h) in
     let words : length f ≡ graphWords p k = eqb-true _ _ size in
     record {
@@ -106,10 +106,10 @@ told p k f e =
 pub given-room : (p k : ℕ) (x y : List ℕ) → given p k (x ++ y) ≡ true → length x + length y ≤ space
 given-room p k x y e = let s = told p k (x ++ y) e in omega (arith, s .room, s .size, length-append x y)
 
-pub given-few : (p k : ℕ) (x y : List ℕ) → given p k (x ++ y) ≡ true → (p < 2 ^ 32) × (k < 2 ^ 32)
-given-few p k x y e = let s = told p k (x ++ y) e in (omega (arith, s .room), omega (arith, s .room))
+pub given-few : (p k : ℕ) (x y : List ℕ) → given p k (x ++ y) ≡ true → (p < 2 ^ 33) × (k < 2 ^ 43) × (0 < 2 ^ 32)
+given-few p k x y e = let s = told p k (x ++ y) e in (omega (arith, s .room), omega (arith, s .room), omega arith)
 
-pub loaded-stood : {p k : ℕ} {a : Areas} {x y w w₁ w₂ : List ℕ} → Told p k (x ++ y) → a ≡ areasOf p k → space ≡ length w → Loaded x 0 w w₁ → Loaded y (length x) w₁ w₂ → Stood a w₂
+pub loaded-stood : {p k : ℕ} {a : Areas} {x y w w₁ w₂ : List ℕ} → Told p k (x ++ y) → a ≡ areasOf p k 0 → space ≡ length w → Loaded x 0 w w₁ → Loaded y (length x) w₁ w₂ → Stood a w₂
 loaded-stood {p} {k} {a} {x} {y} {w} {w₁} {w₂} s e h l m =
     let z : 0 + length x ≡ length x = omega arith in
     let first : take (length x) w₁ ≡ x = rw (← z) (l .front) in
@@ -117,7 +117,7 @@ loaded-stood {p} {k} {a} {x} {y} {w} {w₁} {w₂} s e h l m =
     let front : take (graphWords p k) w₂ ≡ x ++ y = rw (← size) (rw first at (m .front)) in
     rw e
     (record {
-      graph = record { apart = areas-apart p k; long = omega (arith, s .room, l .long, m .long); tidy = rw front (s .tidy) };
+      graph = record { apart = areas-apart p k 0; long = omega (arith, s .room, l .long, m .long); tidy = rw front (s .tidy) };
       some = s .some;
       falls = rw front (s .falls);
     })
@@ -155,9 +155,12 @@ module _ {a : Areas} {n root r : ℕ} {w w′ : List ℕ} (s : Trying a n root B
 
   pub spaced-trying : {w″ : List ℕ} → Spaced a n r root w′ w″ → Trying a n root By.Space w″
   spaced-trying f =
-      let kept = kept-then (o .kept) (kept-less (f .kept) (a .keys) (a .incoming) (omega (arith, g .apart)) (omega (arith, g .apart))) in
+      let p = g .apart in
+      let kept = kept-then (o .kept) (kept-less (f .kept) (a .keys) (a .incoming) (omega (arith, p)) (omega (arith, p))) in
+      let t = surveyed-kept (s .surveyed) kept in
+      let distances = kept-below (f .only) (a .distances) (a .nodes) (omega (arith, p)) ∙ kept-above kept (a .distances) (a .nodes) (omega (arith, p)) in
       record {
         nodes = s .nodes;
-        surveyed = surveyed-kept (s .surveyed) kept;
-        asked = (rw (kept-above kept (a .distances) (a .nodes) (omega (arith, g .apart))) (s .asked), omega (arith, f .small, o .nodes .few, g .tidy .limit));
+        surveyed = surveyed-same t (f .only) (omega (arith, p)) (kept-below (f .only) (a .incoming) (a .nodes) (omega (arith, p)));
+        asked = (rw distances (s .asked), omega (arith, f .small, o .nodes .few, g .tidy .limit));
       }

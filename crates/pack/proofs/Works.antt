@@ -1,55 +1,67 @@
--- The parts of pack's code joined: the graph copied, surveyed and laid, the work memory cleared.
-use mathlib.Core.Path.{_≡_, sym, ap, _∙_}
-use Prim.Native.Nat.{ℕ, _+_, _≤_, _<_}
-use mathlib.Core.List.{List, _∷_}
+-- The parts of pack's code joined: the graph copied, surveyed and arranged, its table written, the work memory cleared.
+use mathlib.Core.Path.{_≡_, refl, sym, ap, subst, _∙_}
+use Prim.Native.Nat.{ℕ, _+_, _-_, _*_, _≤_, _<_}
+use mathlib.Core.List.{List, []}
 use native.Mathlib.Omega.{arith}
-use lib.ListN.{length, replicate, length-replicate}
-use Rattle.lists.specs.Lists.{over}
+use native.Mathlib.Decide.{decLe}
+use native.Mathlib.Nat.{mul-add, mul-comm}
+use lib.ListN.{length, getD, replicate, length-replicate}
+use Rattle.lists.specs.Lists.{total, over}
 use Rattle.regions.specs.Region.{Kept}
 use Rattle.regions.proofs.Frame.{kept-then, kept-less}
 use Rattle.answer.specs.declared.tally.Tally.{Tally}
 use Rattle.answer.specs.declared.Overflow.{Overflow}
-use Rattle.answer.specs.declared.Refusal.{Refusal}
 use Rattle.answer.specs.declared.Refusal.the-variants as Refusal
 use Rattle.answer.specs.declared.Packing.{Packing}
 use Rattle.answer.specs.declared.Packing.the-variants.{Done, Refused}
-use Rattle.model.specs.Graph.{Graph, graphOf, Acyclic}
-use Rattle.model.specs.Table.{Outcome, placed, overflow, arranged, tableLength}
-use Rattle.model.specs.Judge.{verdict, outputShort, overflows}
-use Rattle.model.specs.Session.{tableIn}
-use Rattle.layout.specs.Words.{objectLimit, linkLimit}
+use Rattle.model.specs.Bag.{count}
+use Rattle.model.specs.Graph.{Graph, graphOf, Acyclic, Closed, Once}
+use Rattle.model.specs.Reading.{readingAt, readings}
+use Rattle.model.specs.Table.{Outcome, placed, overflow, placeOf, tableOf, FieldsIn, Fields, Sized}
+use Rattle.model.specs.Copies.{Arrangement, arranged, contentIn, tableBy}
+use Rattle.model.specs.Judge.{mostCopies}
+use Rattle.model.specs.Session.{content, arrangedIn, tableIn}
+use Rattle.model.proofs.Bags.{total-bag}
+use Rattle.model.proofs.Growths.{Base, objects-base, GrewReads}
+use Rattle.model.proofs.Written.{table-same}
+use Rattle.model.proofs.Arrangements.{Fitting as FitsAll, arranged-chosen, chosen-fitting, arranged-reads}
+use Rattle.layout.specs.Words.{objectLimit, linkLimit, closedCount}
 use Rattle.layout.specs.Decode.{decode}
 use Rattle.layout.specs.Known.{Read}
 use Rattle.layout.specs.declared.state.State.{State}
-use Rattle.layout.proofs.Facts.{words-read}
-use Rattle.steps.specs.Steps.{tallyIn}
-use Rattle.steps.specs.Pack.{packed, cleared, packBy, packStep}
+use Rattle.layout.proofs.Facts.{sound-known, words-read}
+use Rattle.steps.specs.Pack.{PackOut, packed, cleared, tableMade, packStep}
+use Rattle.steps.proofs.Formed.{sound-fields}
 use Rattle.steps.proofs.Held.{Held}
-use Rattle.steps.proofs.Packs.{short-told, placed-told, over-told, pack-left}
-use Rattle.work.specs.Areas.{areasOf, workNeed, areas-apart}
+use Rattle.steps.proofs.Packs.{rest, over-told, short-told, placed-told, pack-left}
+use Rattle.steps.proofs.Tallies.{length-closed}
+use Rattle.work.specs.Areas.{areasFor, workNeed, areas-apart}
+use Rattle.work.specs.Views.{orderIn, placesIn}
 use Rattle.work.specs.declared.Areas.{Areas}
 use Rattle.order_graph.specs.Graph.{graphOn, AtNode}
+use Rattle.order_graph.proofs.Links.{front-kept}
+use Rattle.order_graph.proofs.Nodes.{ceiling-in}
 use Rattle.order_survey.specs.Survey.{Measured}
 use Rattle.order_fit.specs.declared.Look.{Look}
 use Rattle.order_fit.specs.declared.Look.the-variants.{Fits, Over}
+use Rattle.order_resolve.specs.declared.Arranged.{Arranged}
+use Rattle.order_resolve.specs.Resolve.{Arranging, ArrangedIn, Arranges, lookIn}
 use Rattle.pack_copy.specs.Copy.{AreasFor, Standing, Copyable, Copied}
+use Rattle.pack_copy.proofs.ClosedObjects.{sound-acyclic}
 use Rattle.pack_copy.proofs.CopiedGraph.{graph-copied}
 use Rattle.pack_copy.proofs.Standing.{standing-kept}
-use Rattle.pack_lay.specs.Lay.{Laying, Laid, lookIn}
-use Rattle.pack.specs.Packable.{Packable, Answered}
+use Rattle.pack_write.specs.Write.{bytesOf, NodeFits, Writing, tableFor}
+use Rattle.pack.specs.Packable.{Packable, Fitting, Written, Answered}
 
--- ---- what a look at the orders says of the outcome
+-- ---- what a look tells of the outcome
 
-module _ (b w : List ℕ) (n : ℕ) (out m : List ℕ) where
-  done-told : (u : Outcome) → n ≤ length out → Fits ≡ lookIn u
-      → packed (Done n (tallyIn b w)) (over 0 (tableIn (decode b w) u) out) (cleared w m) ≡ packBy (verdict (outputShort (length out) n ∷ overflows u)) n u b w out m
-  done-told (placed o) h e = placed-told b w n out m o h
-  done-told (overflow v) h e = absurd (let q : _≡_ {A = ℕ} 0 1 = cc in omega arith)
+look-over : (u : Outcome) {v : Overflow} → lookIn u ≡ Over v → u ≡ overflow v
+look-over (placed o) e = absurd (let q : _≡_ {A = ℕ} 0 1 = cc in omega arith)
+look-over (overflow w) {v} e = let q : w ≡ v = cc in ap overflow q
 
-  unfit-told : (u : Outcome) {o : Overflow} → n ≤ length out → Over o ≡ lookIn u
-      → packed (Refused (Refusal.Overflow o) (tallyIn b w)) (over 0 (tableIn (decode b w) u) out) (cleared w m) ≡ packBy (verdict (outputShort (length out) n ∷ overflows u)) n u b w out m
-  unfit-told (placed o) h e = absurd (let q : _≡_ {A = ℕ} 0 1 = cc in omega arith)
-  unfit-told (overflow v) {o} h e = let q : o ≡ v = cc in rw q (over-told b w n out m v h)
+look-fits : (u : Outcome) → lookIn u ≡ Fits → (o : List ℕ) × (u ≡ placed o)
+look-fits (placed o) e = (o, refl)
+look-fits (overflow v) e = absurd (let q : _≡_ {A = ℕ} 0 1 = cc in omega arith)
 
 -- ---- the parts
 
@@ -67,63 +79,178 @@ module _ {b w : List ℕ} {s : State} {t : Tally} {a : Areas} {root : ℕ} {m : 
     pub pack-surveying : AtNode a (s .closed) root m₁ × Acyclic (graphOn a (s .closed) m₁)
     pack-surveying = (record { graph = stands .graph; inside = c .known }, stands .falls)
 
-    -- the length n is told, and the work memory is m₂
+    -- the table without copies has n bytes, and the work memory is m₂
     module _ {n : ℕ} {m₂ : List ℕ} (z : Measured a (s .closed) root n m₁ m₂) where
-      length-is : n ≡ tableLength g root
-      length-is = z .size ∙ ap (λ x. tableLength x root) (stands .same)
+      now : Standing b w a (s .closed) m₂
+      now = standing-kept stands (z .kept) (omega (arith, c .areas .apart))
+
+      pub pack-arranging : Arranging a (s .closed) (s .links) root n (a .copies) m₂
+      pack-arranging =
+          let front = front-kept (stands .graph) (z .kept) (omega (arith, c .areas .apart)) in
+          record {
+            surveyed = rw front (z .surveyed);
+            acyclic = now .falls;
+            size-is = rw front (z .size);
+            taken = rw (c .read .linksIs) (now .taken);
+            parted = now .parted;
+            room = record {
+              node-room = omega (arith, c .areas .nodes, c .read .objectsIs, c .read .bounds);
+              copy-room = omega arith;
+              link-room = rw (c .read .linksIs) (omega (arith, c .areas .words));
+            };
+            small = z .small;
+          }
 
       kept : Kept 0 (a .end) m m₂
-      kept = kept-then (kept-less (q .kept) 0 (a .end) (omega arith) (omega arith)) (kept-less (z .kept) 0 (a .end) (omega arith) (omega arith))
+      kept =
+          let p = c .areas .apart in
+          kept-then (kept-less (q .kept) 0 (a .end) (omega arith) (omega (arith, p))) (kept-less (z .kept) 0 (a .end) (omega arith) (omega (arith, p)))
 
-      pub pack-laying : {room : ℕ} → n ≤ room → Laying b w s a root room m₂
-      pack-laying h = record {
-        read = c .read;
-        stands = standing-kept stands (z .kept) (omega arith);
-        surveyed = rw (stands .same) at (z .surveyed);
-        fits = omega (arith, length-is);
-      }
+      -- ---- the arrangement
 
-      module _ (out : List ℕ) where
-        pub pack-short : length out < n → Answered b w a root (Refused Refusal.OutputShort t) out out m m₂
-        pack-short h = record { kept = kept; told = rw (c .tally) (short-told b w (tableLength g root) out m (arranged g root) (omega (arith, length-is))) }
+      module _ {r : Arranged} {m₃ : List ℕ} (d : Arranges a (s .closed) (arranged (a .copies) (graphOn a (s .closed) m₂) (s .closed) root) r m₂ m₃) where
+        abbrev all : Arrangement
+        all = arrangedIn (decode b w) root (a .copies)
 
-        module _ (h : n ≤ length out) where
-          room : tableLength g root ≤ length out
-          room = omega (arith, length-is)
+        objects : length (decode b w .closed) ≡ s .closed
+        unfolding decode
+        objects = length-closed b w (closedCount w) ∙ sym (c .read .closedIs)
 
-          module _ {r : Look} {out′ m₃ : List ℕ} (l : Laid b w a (arranged g root) r out out′ m₂ m₃) where
-            kept-all : Kept 0 (a .end) m m₃
-            kept-all = kept-then kept (kept-less (l .kept) 0 (a .end) (omega arith) (omega arith))
+        done : ArrangedIn a (s .closed) all r m₃
+        done = rw (objects) (rw (now .same) at (d .done))
 
-            pub pack-fits : r ≡ Fits → Answered b w a root (Done n t) out out′ m m₃
-            pack-fits e = record {
-              kept = kept-all;
-              told = rw (c .tally, l .written, length-is) (done-told b w (tableLength g root) out m (arranged g root) room (sym e ∙ l .told));
-            }
+        kept-all : Kept 0 (a .end) m m₃
+        kept-all = kept-then kept (d .kept)
 
-            pub pack-over : {o : Overflow} → r ≡ Over o → Answered b w a root (Refused (Refusal.Overflow o) t) out out′ m m₃
-            pack-over e = record {
-              kept = kept-all;
-              told = rw (c .tally, l .written) (unfit-told b w (tableLength g root) out m (arranged g root) room (sym e ∙ l .told));
-            }
+        pub pack-over : {o : Overflow} (out : List ℕ) → r .look ≡ Over o → Answered b w a root (Refused (Refusal.Overflow o) t) out out m m₃
+        pack-over out e = record { kept = kept-all; told = rw (c .tally) (over-told b w all (a .copies) out m (look-over (all .outcome) (sym (done .told) ∙ e))) }
+
+        -- ---- in which every link fits
+
+        module _ (e : r .look ≡ Fits) where
+          order : List ℕ
+          order = look-fits (all .outcome) (sym (done .told) ∙ e) .0
+
+          order-is : all .outcome ≡ placed order
+          unfolding order
+          order-is = look-fits (all .outcome) (sym (done .told) ∙ e) .1
+
+          base : Base g (content (decode b w)) (λ i. readingAt (readings (decode b w .closed)) i) (length (decode b w .closed))
+          base = objects-base (decode b w .closed) (sound-acyclic (sound-known (c .read))) (sound-fields (sound-known (c .read)))
+
+          low : root < length (decode b w .closed)
+          low = omega (arith, objects, c .known)
+
+          reads : GrewReads g (content (decode b w)) (λ i. readingAt (readings (decode b w .closed)) i) root (all .grown)
+          reads = arranged-reads (a .copies) g (length (decode b w .closed)) root base low order-is
+
+          whole : FitsAll (all .grown) order
+          whole = chosen-fitting (a .copies) g (length (decode b w .closed)) root base low (arranged-chosen (a .copies) g (length (decode b w .closed)) root order-is)
+
+          in-memory : orderIn a (r .placed) m₃ ≡ order
+          in-memory = done .fitting order order-is .order
+
+          node-fits : (i : ℕ) → i < r .nodes → NodeFits b w a (s .closed) (r .nodes) m₃ i
+          unfolding Sized Fields
+          node-fits i h =
+              record {
+                sized =
+                    ap (λ (j : ℕ). length (content (decode b w) j)) (done .origins i h) ∙ base .sized (all .grown .origin i) ∙ sym (reads .grew .sizes i)
+                    ∙ sym (ap (λ (x : Graph). x .size i) (done .same));
+                fields = subst (λ (x : Graph). FieldsIn 0 (x .size i) (x .links i)) (sym (done .same)) (reads .fields i);
+              }
+
+          -- what holds of the arrangement's graph and order holds of those in the memory
+          moved : (P : Graph → List ℕ → Type 0) → P (all .grown .graph) order → P (graphOn a (r .nodes) m₃) (orderIn a (r .placed) m₃)
+          moved P h = subst (λ (x : Graph). P x (orderIn a (r .placed) m₃)) (sym (done .same)) (subst (P (all .grown .graph)) (sym in-memory) h)
+
+          pub pack-fitting : Fitting b w s a r m₃
+          unfolding Once Closed
+          pack-fitting =
+              let p = done .fitting order order-is in
+              let v = reads .grew .rooted in
+              record {
+                base = done .base;
+                writing = record {
+                  read = c .read;
+                  graph = done .graph;
+                  owned = done .owned;
+                  each = node-fits;
+                  ids = p .ids;
+                  once = moved (λ _ l. Once l) (λ i. omega (arith, whole .once i, v .once i));
+                  closed = moved Closed (λ i j h k. rw (whole .once j) (v .closed i j (rw (whole .once i) at h) k));
+                  places = moved (λ x l. (i : ℕ) → 0 < count i l → getD (placesIn a m₃) i 0 ≡ placeOf x l i) (p .places);
+                  fits = moved (λ x l. total (x .size) l ≤ r .length) (omega (arith, done .length-is, total-bag (all .grown .graph .size) order (all .grown .line) (whole .once)));
+                };
+              }
+
+          made-is : tableMade all ≡ record { length = r .length; copies = r .nodes - s .closed }
+          made-is = rw (done .length-is, ← done .made)
+
+          table-is : tableFor b w a (s .closed) (r .nodes) (r .placed) m₃ ≡ tableIn (decode b w) all
+          unfolding tableBy tableOf
+          table-is =
+              let p = done .fitting order order-is in
+              let bytes : (i : ℕ) → 0 < count i order → bytesOf b w a (s .closed) m₃ i ≡ content (decode b w) (all .grown .origin i) =
+              λ i h. ap (content (decode b w)) (done .origins i (omega (arith, p .ids .ids, ceiling-in (orderIn a (r .placed) m₃) i (rw in-memory h)))) in
+              rw (order-is) (moved (λ x l. tableOf x (bytesOf b w a (s .closed) m₃) l ≡ tableOf (all .grown .graph) (contentIn (content (decode b w)) (all .grown)) order)
+              (table-same (all .grown .graph) (bytesOf b w a (s .closed) m₃) _ (placeOf (all .grown .graph) order) order bytes))
+
+          pub pack-written : {p : Packing} {out out′ : List ℕ} → Written b w s t a r p out out′ m₃ → Answered b w a root p out out′ m m₃
+          pack-written {p} {out} {out′} u = record { kept = kept-all; told = go (decLe (r .length) (length out)) }
+            where
+              answer : {v v′ : PackOut} → v ≡ v′ → packed (v .answer) (v .out) (cleared (a .copies) w m) ≡ packed (v′ .answer) (v′ .out) (cleared (a .copies) w m)
+              answer q = ap (λ (x : PackOut). packed (x .answer) (x .out) (cleared (a .copies) w m)) q
+
+              go : Dec (r .length ≤ length out) → packed p out′ (cleared (a .copies) w m) ≡ rest b w all (a .copies) out m
+              go (yes h) = answer (u .room h) ∙ rw (← made-is, table-is, c .tally) (placed-told b w all (a .copies) out m order-is (omega (arith, done .length-is)))
+              go (no h) = answer (u .short (omega arith)) ∙ rw (c .tally) (short-told b w all (a .copies) out m order-is (omega (arith, done .length-is)))
+
+-- ---- a table written where there is room
+
+-- more room than the table has bytes
+more-room : {b w m : List ℕ} {s : State} {a : Areas} {nodes r n room : ℕ} → n ≤ room → Writing b w s a nodes m r n → Writing b w s a nodes m r room
+more-room h c =
+    record { read = c .read; graph = c .graph; owned = c .owned; each = c .each; ids = c .ids; once = c .once; closed = c .closed; places = c .places; fits = omega (arith, c .fits) }
+
+pub fitting-room : {b w m : List ℕ} {s : State} {a : Areas} {r : Arranged} {room : ℕ} → Fitting b w s a r m → r .length ≤ room → Writing b w s a (r .nodes) m (r .placed) room
+fitting-room f h = more-room h (f .writing)
+
+module _ {b w m : List ℕ} {s : State} {t : Tally} {a : Areas} {r : Arranged} {out : List ℕ} where
+  pub written-short : length out < r .length → Written b w s t a r (Refused Refusal.OutputShort t) out out m
+  written-short h = record { short = λ k. refl; room = λ k. absurd (omega arith) }
+
+  pub written-room : {out′ : List ℕ} → r .length ≤ length out → out′ ≡ over 0 (tableFor b w a (s .closed) (r .nodes) (r .placed) m) out
+      → Written b w s t a r (Done (record { length = r .length; copies = r .nodes - s .closed }) t) out out′ m
+  written-room h e = record { short = λ k. absurd (omega arith); room = λ k. rw e }
 
 -- ---- and the needed words cleared
 
-areas-for : {b w : List ℕ} {s : State} → Read b w s → AreasFor w (areasOf (s .objects) (s .links))
-areas-for {s = s} r = record { apart = areas-apart (s .objects) (s .links); nodes = r .objectsIs; words = omega arith }
+areas-for : {b w : List ℕ} {s : State} (copies : ℕ) → copies ≤ mostCopies → Read b w s → AreasFor w (areasFor (s .objects) (s .links) copies)
+areas-for {s = s} copies few r =
+    record {
+      apart = areas-apart (s .objects + copies) (s .links * (copies + 1)) copies;
+      few = few;
+      nodes = omega (arith, r .objectsIs);
+      words = rw (← r .linksIs) (omega (arith, mul-add (s .links) copies 1, mul-comm (s .links) copies));
+    }
 
-module _ {b w : List ℕ} {s : State} {t : Tally} {a : Areas} (h : Held b w s t) (e : a ≡ areasOf (s .objects) (s .links)) where
+module _ {b w : List ℕ} {s : State} {t : Tally} {a : Areas} {copies : ℕ} (h : Held b w s t) (few : copies ≤ mostCopies) (e : a ≡ areasFor (s .objects) (s .links) copies) where
   pub packable : {id : ℕ} {m : List ℕ} → a .end ≤ length m → id < t .objects → Packable b w s t a id m
-  packable long known = record { read = h .counts; tally = h .tallyIs; areas = rw e (areas-for (h .counts)); known = omega arith; long = long }
+  packable long known = record { read = h .counts; tally = h .tallyIs; areas = rw e (areas-for copies few (h .counts)); known = omega arith; long = long }
 
-  cleared-again : {m m′ m″ : List ℕ} → Kept 0 (a .end) m m′ → m″ ≡ over 0 (replicate (a .end) 0) m′ → m″ ≡ cleared w m
+  allowed : a .copies ≡ copies
+  allowed = ap (λ (x : Areas). x .copies) e
+
+  cleared-again : {m m′ m″ : List ℕ} → Kept 0 (a .end) m m′ → m″ ≡ over 0 (replicate (a .end) 0) m′ → m″ ≡ cleared copies w m
   unfolding over
   cleared-again k q =
-      let n = workNeed (objectLimit w) (linkLimit w) in
+      let n = workNeed (objectLimit w) (linkLimit w) copies in
       let size : a .end ≡ n = rw (e, h .counts .objectsIs, h .counts .linksIs) in
       let z : 0 + n ≡ n = omega arith in
       q ∙ rw (size, length-replicate {A = ℕ} n 0, z, rw size at (k .back))
 
   pub pack-done : {r : Packing} {id : ℕ} {out out′ m m′ m″ : List ℕ} → a .end ≤ length m → t .depth ≤ 0 → id < t .objects → Answered b w a id r out out′ m m′
-      → m″ ≡ over 0 (replicate (a .end) 0) m′ → packed r out′ m″ ≡ packStep id b w out m
-  pack-done {id = id} {out = out} {m = m} long none known p q = rw (cleared-again (p .kept) q) (p .told) ∙ pack-left h id out m (rw e at long) none known
+      → m″ ≡ over 0 (replicate (a .end) 0) m′ → packed r out′ m″ ≡ packStep id copies b w out m
+  pack-done {id = id} {out = out} {m = m} long none known p q =
+      rw (cleared-again (p .kept) q) (rw allowed at (p .told)) ∙ pack-left h id copies out m few (rw e at long) none known

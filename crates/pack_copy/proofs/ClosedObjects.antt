@@ -42,6 +42,13 @@ entries s i h =
       linkInside = t .linkBegins .under i (omega arith);
     }
 
+-- links of later objects lie in front of those of earlier ones
+pub links-fall : {b w : List ℕ} → Sound b w → (i d : ℕ) → i + d ≤ closedCount w → getD w (linkBeginsAt w + (i + d)) 0 ≤ getD w (linkBeginsAt w + i) 0
+links-fall {w = w} s i zero h = let e : i + zero ≡ i = omega arith in rw e (omega arith)
+links-fall {w = w} s i (suc d) h =
+    let e : linkBeginsAt w + (i + suc d) ≡ linkBeginsAt w + (i + d) + 1 = omega arith in
+    rw e (omega (arith, entries s (i + d) (omega arith) .linkOrder, links-fall s i d (omega arith)))
+
 -- ---- by id, past the last
 
 pub closed-past : (b w : List ℕ) (n i : ℕ) → n ≤ i → objectAt (closedTo b w n) i ≡ noObject

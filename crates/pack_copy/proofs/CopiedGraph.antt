@@ -27,7 +27,7 @@ use Rattle.order_graph.specs.Graph.{linksFrom, linksAt, linkCount, graphIn, gra
 use Rattle.pack_copy.specs.Copy.{AreasFor, Standing, NodeOf, NodesIn, Packs, LinksIn, NodesCopied, LinksCopied, Copyable, Copied}
 use Rattle.steps.proofs.Tallies.{closed-at}
 use Rattle.steps.proofs.Formed.{closed-right}
-use Rattle.pack_copy.proofs.ClosedObjects.{entries, closed-past, packs-from, links-packed, fields-right, sound-acyclic}
+use Rattle.pack_copy.proofs.ClosedObjects.{entries, links-fall, closed-past, packs-from, links-packed, fields-right, sound-acyclic}
 
 module _ {a : Areas} {b w m m₂ : List ℕ} (s : Sound b w) (f : AreasFor w a) (room : a .end ≤ length m) (kept : Kept 0 (a .keys) m m₂)
     (ns : NodesIn a (closedCount w) w m₂) (ls : LinksIn a (linkLimit w * packedWords) w m₂) where
@@ -110,7 +110,30 @@ module _ {a : Areas} {b w m m₂ : List ℕ} (s : Sound b w) (f : AreasFor w a) 
   }
 
   graph-stands : Standing b w a (closedCount w) m₂
-  graph-stands = record { graph = stands; same = same; falls = rw same (sound-acyclic s) }
+  graph-stands =
+      record {
+        graph = stands;
+        same = same;
+        falls = rw same (sound-acyclic s);
+        taken = λ i h. let o = node-words i h in let e = entries s i h in omega arith;
+        parted = λ i j s t h k b d e. go i j s t h k b d e (decLe i j) (decLe j i);
+      }
+    where
+      apart : (i j s t : ℕ) → i < closedCount w → j < closedCount w → s < linkCount a front i → t < linkCount a front j → i < j
+          → getD front (a .firsts + i) 0 + s ≡ getD front (a .firsts + j) 0 + t → ⊥
+      apart i j s′ t h k b d l e =
+          let o = node-words i h in
+          let p = node-words j k in
+          let z : linkBeginsAt w + (i + 1 + (j - (i + 1))) ≡ linkBeginsAt w + j = omega arith in
+          let y : linkBeginsAt w + (i + 1) ≡ linkBeginsAt w + i + 1 = omega arith in
+          let f = rw (z, y) at (links-fall s (i + 1) (j - (i + 1)) (omega arith)) in
+          absurd (omega (arith, o .first-is, o .count-is, p .first-is, p .count-is, f))
+
+      go : (i j s t : ℕ) → i < closedCount w → j < closedCount w → s < linkCount a front i → t < linkCount a front j
+          → getD front (a .firsts + i) 0 + s ≡ getD front (a .firsts + j) 0 + t → Dec (i ≤ j) → Dec (j ≤ i) → i ≡ j
+      go i j s t h k b d e (yes x) (yes y) = omega arith
+      go i j s t h k b d e (yes x) (no y) = absurd (apart i j s t h k b d (omega (arith, y)) e)
+      go i j s t h k b d e (no x) y = absurd (apart j i t s k h d b (omega (arith, x)) (sym e))
 
 -- what was copied is the graph of the closed objects
 pub graph-copied : {a : Areas} {b w m m′ : List ℕ} {s : State} → Read b w s → AreasFor w a → a .end ≤ length m → Copied w s a m m′ → Standing b w a (s .closed) m′

@@ -11,76 +11,78 @@ use Rattle.lists.proofs.Overs.{over-then, over-lent}
 use Rattle.regions.proofs.Laws.{region-at}
 use Rattle.answer.specs.declared.ObjectId.{ObjectId}
 use Rattle.model.specs.Object.{Object}
-use Rattle.model.specs.Graph.{Graph, graphOf, Closed}
+use Rattle.model.specs.Graph.{Graph, Closed}
 use Rattle.model.specs.Bag.{count}
-use Rattle.model.specs.Session.{content}
-use Rattle.model.specs.Table.{placeOf, filled, objectBytes, tableFrom, tableOf, FieldsIn, Fields, Sized}
-use Rattle.model.proofs.Tables.{object-length}
+use Rattle.model.specs.Table.{placeOf, filled, objectBytes, tableFrom, tableOf, FieldsIn}
+use Rattle.model.proofs.Filled.{length-filled}
 use Rattle.model.proofs.Written.{filled-same, count-at, before-at}
 use Rattle.layout.specs.Words.{objectLimit, closedCount}
 use Rattle.layout.specs.Spans.{closedSpan, Lies}
 use Rattle.layout.specs.Known.{Tested}
-use Rattle.layout.specs.Decode.{decode}
 use Rattle.layout.specs.declared.span.Span.{Span}
 use Rattle.layout.specs.declared.state.State.{State}
 use Rattle.layout.proofs.Facts.{sound-known, words-read}
-use Rattle.steps.proofs.Formed.{decoded-at, sound-fields}
-use Rattle.work.specs.Views.{orderIn, placesIn}
+use Rattle.steps.proofs.Formed.{decoded-at}
+use Rattle.work.specs.Views.{orderIn, placesIn, originIn}
 use Rattle.work.specs.declared.Areas.{Areas}
 use Rattle.order_graph.specs.Graph.{graphOn, objectOf, AtNode}
 use Rattle.order_fit.specs.Fit.{offsetBy, Placing}
 use Rattle.order_fit.proofs.Summing.{order-long}
-use Rattle.pack_write.specs.Write.{Writing, tableFor}
+use Rattle.pack_write.specs.Write.{bytesOf, Writing, tableFor}
 
--- the sizes and links of the closed objects
-abbrev graphAt : List ℕ → List ℕ → Graph
-graphAt b w = graphOf (decode b w .closed)
+-- ---- the objects of an order in graph g, by the bytes of each node
 
 -- the bytes of the table from object t of the order on
-abbrev rest : List ℕ → List ℕ → List ℕ → ℕ → List ℕ
-rest b w o t = tableFrom (graphAt b w) (content (decode b w)) (placeOf (graphAt b w) o) (drop t o)
+abbrev rest : Graph → (ℕ → List ℕ) → List ℕ → ℕ → List ℕ
+rest g bytes o t = tableFrom g bytes (placeOf g o) (drop t o)
 
 -- d₀ has become d: t objects of the order o, which has r, are written, and the next begins at `next`
-pub record Objects (b w o : List ℕ) (r t : ℕ) (d₀ d : List ℕ) : Type 0 where
+pub record Objects (g : Graph) (bytes : ℕ → List ℕ) (o : List ℕ) (r t : ℕ) (d₀ d : List ℕ) : Type 0 where
   pub some : t ≤ r
   pub long : length d ≡ length d₀
   pub next : ℕ
-  pub next-is : next + total (graphAt b w .size) (drop t o) ≡ total (graphAt b w .size) o
-  pub left : over next (rest b w o t) d ≡ over 0 (tableFor b w o) d₀
+  pub next-is : next + total (g .size) (drop t o) ≡ total (g .size) o
+  pub left : over next (rest g bytes o t) d ≡ over 0 (tableOf g bytes o) d₀
 
-pub objects-none : (b w o : List ℕ) (r : ℕ) (d : List ℕ) → Objects b w o r 0 d d
+pub objects-none : (g : Graph) (bytes : ℕ → List ℕ) (o : List ℕ) (r : ℕ) (d : List ℕ) → Objects g bytes o r 0 d d
 unfolding tableOf
-objects-none b w o r d = record { some = omega arith; long = refl; next = 0; next-is = omega arith; left = refl }
+objects-none g bytes o r d = record { some = omega arith; long = refl; next = 0; next-is = omega arith; left = refl }
 
-module _ {b w m : List ℕ} {s : State} {a : Areas} {r room : ℕ} (c : Writing b w s a m r room) where
+module _ {b w m : List ℕ} {s : State} {a : Areas} {nodes r room : ℕ} (c : Writing b w s a nodes m r room) where
   abbrev order : List ℕ
   order = orderIn a r m
 
   abbrev g : Graph
-  g = graphAt b w
+  g = graphOn a nodes m
 
-  pub table-placing : Placing a (s .closed) r m
-  table-placing = record { graph = c .stands .graph; nodes = c .nodes }
+  abbrev bytes : ℕ → List ℕ
+  bytes = bytesOf b w a (s .closed) m
+
+  pub table-placing : Placing a nodes r m
+  table-placing = record { graph = c .graph; nodes = c .ids }
 
   pub count-small : r < 2 ^ 32
-  count-small = omega (arith, c .nodes .few, c .stands .graph .tidy .limit)
+  count-small = omega (arith, c .ids .few, c .graph .tidy .limit)
 
-  pub objects-all : {t : ℕ} {d₀ d : List ℕ} → Objects b w order r t d₀ d → r ≤ t → d ≡ over 0 (tableFor b w order) d₀
+  pub objects-all : {t : ℕ} {d₀ d : List ℕ} → Objects g bytes order r t d₀ d → r ≤ t → d ≡ over 0 (tableFor b w a (s .closed) nodes r m) d₀
   unfolding tableFrom
   objects-all {t} o h =
       let k : length order ≤ t = omega (arith, order-long table-placing) in
       rw (drop-of-length-le order {i = t} k, tableFrom, over-none) at (o .left)
 
-  -- the object with number t in the order, as read
-  module _ {t i : ℕ} (h : t < r) (e : (i < s .closed) × (i ≡ getD order t 0)) where
+  -- the node with number t in the order, as read
+  module _ {t i : ℕ} (h : t < r) (e : (i < nodes) × (i ≡ getD order t 0)) where
     inside : t < length order
     inside = omega (arith, order-long table-placing)
 
-    known : i < closedCount w
-    known = rw (c .read .closedIs) at (e .0)
+    abbrev object : ℕ
+    object = originIn a (s .closed) m i
 
-    pub object-node : AtNode a (s .closed) i m
-    object-node = record { graph = c .stands .graph; inside = e .0 }
+    known : object < closedCount w
+    known = omega (arith, c .owned .object i (e .0), c .read .closedIs)
+
+    pub object-node : AtNode a nodes i m
+    object-node = record { graph = c .graph; inside = e .0 }
 
     placed : 0 < count i order
     placed = rw (e .1) (count-at order t inside)
@@ -90,7 +92,7 @@ module _ {b w m : List ℕ} {s : State} {a : Areas} {r room : ℕ} (c : Writing 
     place = getD m (a .places + i) 0
 
     place-is : place ≡ placeOf g order i
-    place-is = region-at (a .places) (a .nodes) m i (omega (arith, e .0, c .stands .graph .tidy .nodes)) ∙ c .places i placed
+    place-is = region-at (a .places) (a .nodes) m i (omega (arith, e .0, c .graph .tidy .nodes)) ∙ c .places i placed
 
     first : drop t order ≡ i ∷ drop (t + 1) order
     first = rw (e .1) (drop-first t order inside)
@@ -99,36 +101,33 @@ module _ {b w m : List ℕ} {s : State} {a : Areas} {r room : ℕ} (c : Writing 
     unfolding total
     sizes = ap (total (g .size)) first
 
-    -- the object as it stands in the table
-    object : List ℕ
-    object = objectBytes g (content (decode b w)) (placeOf g order) i
+    -- the node as it stands in the table
+    written : List ℕ
+    written = objectBytes g bytes (placeOf g order) i
 
-    object-size : length object ≡ g .size i
-    unfolding object Sized
-    object-size = object-length g (content (decode b w)) (placeOf g order) (λ k. refl) (sound-fields (sound-known (c .read))) i
+    written-size : length written ≡ g .size i
+    unfolding written objectBytes
+    written-size = length-filled _ 0 (g .size i) (g .links i) (bytes i) (c .each i (e .0) .sized) (c .each i (e .0) .fields)
 
-    rest-is : rest b w order t ≡ object ++ rest b w order (t + 1)
-    unfolding tableFrom object
-    rest-is = ap (tableFrom g (content (decode b w)) (placeOf g order)) first
+    rest-is : rest g bytes order t ≡ written ++ rest g bytes order (t + 1)
+    unfolding tableFrom written
+    rest-is = ap (tableFrom g bytes (placeOf g order)) first
 
-    links-are : graphOn a (s .closed) m .links i ≡ g .links i
-    links-are = ap (λ (x : Graph). x .links i) (c .stands .same)
+    written-filled : filled (offsetBy (placesIn a m) i) (g .links i) (bytes i) ≡ written
+    unfolding objectBytes Closed written
+    written-filled =
+        filled-same (λ k. getD (placesIn a m) k 0) (placeOf g order) i (c .places i placed) (g .links i) (λ k q. c .places k (c .closed i k placed q)) (bytes i)
 
-    object-filled : filled (offsetBy (placesIn a m) i) (g .links i) (content (decode b w) i) ≡ object
-    unfolding objectBytes Closed object
-    object-filled =
-        filled-same (λ k. getD (placesIn a m) k 0) (placeOf g order) i (c .places i placed) (g .links i) (λ k q. c .places k (c .closed i k placed q)) (content (decode b w) i)
-
-    -- where it lies is found by its id
-    pub span-asked : {id : ObjectId} → id ≡ objectOf i → Tested w × (s .objects ≡ objectLimit w) × (id .0 < closedCount w)
+    -- where its object's bytes lie is found by the object's id
+    pub span-asked : {id : ObjectId} → id ≡ objectOf object → Tested w × (s .objects ≡ objectLimit w) × (id .0 < closedCount w)
     span-asked id-is = (words-read (c .read) .tested, c .read .objectsIs, rw id-is known)
 
-    module _ {id : ObjectId} {x : Span} (id-is : id ≡ objectOf i) (lies : Lies w (closedSpan w (id .0)) x) where
-      span-is : x ≡ closedSpan w i
+    module _ {id : ObjectId} {x : Span} (id-is : id ≡ objectOf object) (lies : Lies w (closedSpan w (id .0)) x) where
+      span-is : x ≡ closedSpan w object
       span-is = lies .is ∙ ap (λ (k : ObjectId). closedSpan w (k .0)) id-is
 
-      bytes-are : part (x .from) (x .to) b ≡ content (decode b w) i
-      bytes-are = rw span-is (sym (ap (λ (o : Object). o .bytes) (decoded-at b w i known)))
+      bytes-are : part (x .from) (x .to) b ≡ bytes i
+      bytes-are = rw span-is (sym (ap (λ (o : Object). o .bytes) (decoded-at b w object known)))
 
       pub bytes-order : x .from ≤ x .to
       bytes-order = lies .within .order
@@ -136,11 +135,10 @@ module _ {b w m : List ℕ} {s : State} {a : Areas} {r room : ℕ} (c : Writing 
       pub bytes-inside : x .to ≤ length b
       bytes-inside = omega (arith, lies .within .inside, sound-known (c .read) .head .size)
 
-      pub object-fields : FieldsIn 0 (length (part (x .from) (x .to) b)) (graphOn a (s .closed) m .links i)
-      unfolding Fields
-      object-fields = rw (bytes-are, links-are) (sound-fields (sound-known (c .read)) i)
+      pub object-fields : FieldsIn 0 (length (part (x .from) (x .to) b)) (g .links i)
+      object-fields = rw (bytes-are, c .each i (e .0) .sized) (c .each i (e .0) .fields)
 
-      module _ {d₀ d : List ℕ} (o : Objects b w order r t d₀ d) (fits : length d₀ ≡ room) where
+      module _ {d₀ d : List ℕ} (o : Objects g bytes order r t d₀ d) (fits : length d₀ ≡ room) where
         next-place : o .next ≡ place
         next-place = omega (arith, place-is, rw (← e .1) at (before-at (g .size) order t (c .once) inside), o .next-is)
 
@@ -148,18 +146,18 @@ module _ {b w m : List ℕ} {s : State} {a : Areas} {r room : ℕ} (c : Writing 
         room-left = omega (arith, next-place, sizes, o .next-is, o .long, c .fits)
 
         pub object-room : place + length (part (x .from) (x .to) b) ≤ length d
-        object-room = rw bytes-are room-left
+        object-room = rw (bytes-are, c .each i (e .0) .sized) room-left
 
         pub objects-next : {y : List ℕ}
-            → y ≡ over 0 (filled (offsetBy (placesIn a m) i) (graphOn a (s .closed) m .links i) (part (x .from) (x .to) b)) (take (length d - place) (drop place d))
-            → Objects b w order r (t + 1) d₀ (take place d ++ (y ++ drop (length d - place) (drop place d)))
+            → y ≡ over 0 (filled (offsetBy (placesIn a m) i) (g .links i) (part (x .from) (x .to) b)) (take (length d - place) (drop place d))
+            → Objects g bytes order r (t + 1) d₀ (take place d ++ (y ++ drop (length d - place) (drop place d)))
         objects-next q =
-            let k : place + length object ≤ length d = omega (arith, object-size, room-left) in
-            rw (q, bytes-are, links-are, object-filled, over-lent place object d k)
+            let k : place + length written ≤ length d = omega (arith, written-size, room-left) in
+            rw (q, bytes-are, written-filled, over-lent place written d k)
             (record {
               some = omega arith;
-              long = length-over place object d k ∙ o .long;
-              next = place + length object;
-              next-is = omega (arith, object-size, next-place, sizes, o .next-is);
-              left = over-then place object d k (rest b w order (t + 1)) ∙ rw (← rest-is, ← next-place) (o .left);
+              long = length-over place written d k ∙ o .long;
+              next = place + length written;
+              next-is = omega (arith, written-size, next-place, sizes, o .next-is);
+              left = over-then place written d k (rest g bytes order (t + 1)) ∙ rw (← rest-is, ← next-place) (o .left);
             })

@@ -151,7 +151,7 @@ module _ (b w : List ℕ) (h : sound b w ≡ true) where
           (leaves-follow (closedCount w)
           (seal-leaves known k (some-bytes (eqb-false _ _ (passes _ e 2))) (leb-false (objectLimit w) (closedCount w) (rw (le-leb _ _ j) at full)) (passes _ e 3)))
 
-  step-follows : (work : Limits → ℕ) (c : StoreCall) → Follows s (stepOn c s) (step (needsWith work) (asCall (length (s .bytes)) (length (s .words)) c) a)
+  step-follows : (work : Limits → ℕ → ℕ) (c : StoreCall) → Follows s (stepOn c s) (step (needsWith work) (asCall (length (s .bytes)) (length (s .words)) c) a)
   unfolding stepOn asCall step startStep openStep putStep linkStep closeStep dropStep tallyStep
   step-follows work (start objects links) =
       let m : Limits = limitsOf objects links b in
@@ -183,7 +183,7 @@ module _ (b w : List ℕ) (h : sound b w ≡ true) where
 
 -- ---- the theorems
 
-pub step-drawn : (work : Limits → ℕ) (c : StoreCall) (s : Stores) (a : Session) → Drawn s a → Follows s (stepOn c s) (step (needsWith work) (asCall (length (s .bytes)) (length (s .words)) c) a)
+pub step-drawn : (work : Limits → ℕ → ℕ) (c : StoreCall) (s : Stores) (a : Session) → Drawn s a → Follows s (stepOn c s) (step (needsWith work) (asCall (length (s .bytes)) (length (s .words)) c) a)
 step-drawn work c s a d = subst (λ x. Follows s (stepOn c s) (step (needsWith work) (asCall (length (s .bytes)) (length (s .words)) c) x)) (d .holds) (step-follows (s .bytes) (s .words) (d .isSound) work c)
 
 -- an accepted start, whatever the stores held

@@ -9,11 +9,11 @@ number-of-requires c κs = search needs
 named-by-requires : tie.Need-named-by-requires
 named-by-requires c κs = search needs
 
-ten-requires : tie.Need-ten-requires
-ten-requires c κs = search needs
+as-numbers-requires : tie.Need-as-numbers-requires
+as-numbers-requires c κs = search needs
 
 returns : tie.Need-returns
-returns c = rw (← c .before .before .number-of .ensures, ← c .before .named-by .ensures) (c .ten .ensures)
+returns c = rw (← c .before .before .number-of .ensures, ← c .before .named-by .ensures) (c .as-numbers .ensures)
 
 pub tell-refused-spec : {M : Type 1} → statement M
-tell-refused-spec = tie.close (tie.spec number-of-requires named-by-requires ten-requires returns)
+tell-refused-spec = tie.close (tie.spec number-of-requires named-by-requires as-numbers-requires returns)

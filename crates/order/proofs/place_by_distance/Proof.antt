@@ -1,12 +1,14 @@
 -- `place_by_distance` meets its contract: the distances are the keys.
 use borrow.Author.Needs.{needs}
+use native.Mathlib.Omega.{arith}
+use Rattle.regions.specs.Region.{before}
 use Rattle.order.proofs.Keys.{keys-distances}
 use Rattle.order.proofs.Placing.{keyed-starting, keyed-order}
 use Rattle.order.proofs.place_by_distance.Statement.{statement}
 use Rattle.order.proofs.place_by_distance.Tie as tie
 
 copy-requires : tie.Need-copy-requires
-copy-requires c κs = search needs
+copy-requires c κs = (before (omega arith), omega arith, omega arith)
 
 place-by-keys-requires : tie.Need-place-by-keys-requires
 place-by-keys-requires c κs =

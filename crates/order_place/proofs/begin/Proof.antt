@@ -1,11 +1,13 @@
 -- `begin` meets its contract: the counts copied, and the root stored.
 use borrow.Author.Needs.{needs}
+use native.Mathlib.Omega.{arith}
+use Rattle.regions.specs.Region.{before}
 use Rattle.order_place.proofs.Starting.{begun}
 use Rattle.order_place.proofs.begin.Statement.{statement}
 use Rattle.order_place.proofs.begin.Tie as tie
 
 copy-requires : tie.Need-copy-requires
-copy-requires c κs = search needs
+copy-requires c κs = (before (omega arith), omega arith, omega arith)
 
 mul-work : tie.Need-mul-work
 mul-work c = search needs

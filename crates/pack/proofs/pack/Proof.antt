@@ -27,7 +27,7 @@ none-requires c κs = search needs
 
 returns-2 : tie.Need-returns-2
 unfolding lentStep
-returns-2 c = ap (leftByPack _) (pack-unsound _ _ _ _ _ (c .none .ensures) (sym (c .before .before .is-sound .ensures) ∙ c .before .if1 .left))
+returns-2 c = ap (leftByPack _) (pack-unsound _ _ _ _ _ _ (c .none .ensures) (sym (c .before .before .is-sound .ensures) ∙ c .before .if1 .left))
 
 pub pack-spec : {M : Type 1} → statement M
 pack-spec =

@@ -1,5 +1,5 @@
--- `pack_graph` meets its contract: three ways, 10, a table, or 11.
-use Rattle.pack.proofs.Works.{pack-copying, pack-surveying, pack-short, pack-laying, pack-fits, pack-over}
+-- `pack_graph` meets its contract: 11, or what comes of an arrangement in which every offset fits.
+use Rattle.pack.proofs.Works.{pack-copying, pack-surveying, pack-arranging, pack-over, pack-fitting, pack-written}
 use borrow.Author.Needs.{needs}
 use Rattle.pack.proofs.pack_graph.Statement.{statement}
 use Rattle.pack.proofs.pack_graph.Tie as tie
@@ -11,26 +11,10 @@ cast-root : tie.Need-cast-root
 cast-root c = search needs
 
 survey-requires : tie.Need-survey-requires
-survey-requires c κs =
-    let at-copy = c .before .before .before .before in
-    pack-surveying (at-copy .before .before .before .before .before .before .pre) (at-copy .copy-graph .ensures)
+survey-requires c κs = pack-surveying (c .before .before .before .before .before .before .before .before .before .before .pre) (c .before .before .before .before .copy-graph .ensures)
 
-same-length : tie.Need-same-length
-same-length c = search needs
-
-returns : tie.Need-returns
-returns c =
-    let at-survey = c .before .before .before in
-    let at-copy = at-survey .before .before .before .before .before in
-    let pre = at-copy .before .before .before .before .before .before .pre in
-    pack-short pre (at-copy .copy-graph .ensures) (at-survey .survey .ensures) _ (c .if1 .taken)
-
-lay-first-fit-requires : tie.Need-lay-first-fit-requires
-lay-first-fit-requires c κs =
-    let at-survey = c .before .before .before .before .before in
-    let at-copy = at-survey .before .before .before .before .before in
-    let pre = at-copy .before .before .before .before .before .before .pre in
-    pack-laying pre (at-copy .copy-graph .ensures) (at-survey .survey .ensures) (c .before .before .if1 .left)
+arrange-requires : tie.Need-arrange-requires
+arrange-requires c κs = pack-arranging (c .before .before .before .before .before .before .before .before .before .before .before .before .before .before .pre) (c .before .before .before .before .before .before .before .before .copy-graph .ensures) (c .before .before .before .survey .ensures)
 
 enum-known-look : tie.Need-enum-known-look
 enum-known-look c = search needs
@@ -38,35 +22,36 @@ enum-known-look c = search needs
 enum-told : tie.Need-enum-told
 enum-told c = search needs
 
+write-fitting-requires : tie.Need-write-fitting-requires
+write-fitting-requires c κs =
+    let at-arrange = c .before .before .before .before .before .before in
+    let at-survey = at-arrange .before .before .before .before in
+    let at-copy = at-survey .before .before .before .before .before in
+    pack-fitting (at-copy .before .before .before .before .before .before .pre) (at-copy .copy-graph .ensures) (at-survey .survey .ensures) (at-arrange .arrange .ensures) (c .before .before .enum-told .given .1)
+
+same-length : tie.Need-same-length
+same-length c = search needs
+
 same-length-2 : tie.Need-same-length-2
 same-length-2 c = search needs
+
+returns : tie.Need-returns
+returns c =
+    let at-told = c .before .before .before .before .before in
+    let at-arrange = at-told .before .before .before .before in
+    let at-survey = at-arrange .before .before .before .before in
+    let at-copy = at-survey .before .before .before .before .before in
+    pack-written (at-copy .before .before .before .before .before .before .pre) (at-copy .copy-graph .ensures) (at-survey .survey .ensures) (at-arrange .arrange .ensures) (at-told .enum-told .given .1) (c .before .before .write-fitting .ensures)
 
 same-length-3 : tie.Need-same-length-3
 same-length-3 c = search needs
 
 returns-2 : tie.Need-returns-2
 returns-2 c =
-    let at-lay = c .before .before .before .before .before .before in
-    let at-fits = at-lay .before .before .before in
-    let at-survey = at-fits .before .before .before in
+    let at-arrange = c .before .before .before .before .before in
+    let at-survey = at-arrange .before .before .before .before in
     let at-copy = at-survey .before .before .before .before .before in
-    let pre = at-copy .before .before .before .before .before .before .pre in
-    pack-fits pre (at-copy .copy-graph .ensures) (at-survey .survey .ensures) _ (at-fits .if1 .left) (at-lay .lay-first-fit .ensures) (c .enum-told .given .1)
-
-same-length-4 : tie.Need-same-length-4
-same-length-4 c = search needs
-
-same-length-5 : tie.Need-same-length-5
-same-length-5 c = search needs
-
-returns-3 : tie.Need-returns-3
-returns-3 c =
-    let at-lay = c .before .before .before .before .before .before .before in
-    let at-fits = at-lay .before .before .before in
-    let at-survey = at-fits .before .before .before in
-    let at-copy = at-survey .before .before .before .before .before in
-    let pre = at-copy .before .before .before .before .before .before .pre in
-    pack-over pre (at-copy .copy-graph .ensures) (at-survey .survey .ensures) _ (at-fits .if1 .left) (at-lay .lay-first-fit .ensures) (c .before .look .given .1)
+    pack-over (at-copy .before .before .before .before .before .before .pre) (at-copy .copy-graph .ensures) (at-survey .survey .ensures) (at-arrange .arrange .ensures) _ (c .before .look .given .1)
 
 pub pack-graph-spec : {M : Type 1} → statement M
 pack-graph-spec =
@@ -75,14 +60,12 @@ pack-graph-spec =
     copy-graph-requires
     cast-root
     survey-requires
-    same-length
-    returns
-    lay-first-fit-requires
+    arrange-requires
     enum-known-look
     enum-told
+    write-fitting-requires
+    same-length
     same-length-2
+    returns
     same-length-3
-    returns-2
-    same-length-4
-    same-length-5
-    returns-3)
+    returns-2)

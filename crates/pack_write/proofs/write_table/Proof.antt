@@ -5,16 +5,18 @@ use native.Mathlib.Omega.{arith}
 use lib.ListN.{length-take, length-drop}
 use Rattle.answer.specs.declared.ObjectId.{ObjectId}
 use Rattle.work.specs.Views.{orderIn}
+use Rattle.order_graph.specs.Graph.{graphOn}
+use Rattle.pack_write.specs.Write.{bytesOf}
 use Rattle.pack_write.proofs.Objects.{Objects, objects-none, objects-all, count-small, object-node, span-asked, bytes-order, bytes-inside, object-fields, object-room, objects-next}
 use borrow.Author.Needs.{needs}
 use Rattle.pack_write.proofs.write_table.Statement.{statement}
 use Rattle.pack_write.proofs.write_table.Tie as tie
 
 abbrev Inv-loop : tie.InvT-loop
-Inv-loop out₀ store records a work placed n p t₀ out t = Objects store records (orderIn a placed work) placed t out₀ out
+Inv-loop out₀ store records a nodes work placed n p t₀ out t = Objects (graphOn a nodes work) (bytesOf store records a n work) (orderIn a placed work) placed t out₀ out
 
 abbrev μ-loop : tie.MeasureT-loop
-μ-loop out₀ store records a work placed n p t₀ out t = placed - t
+μ-loop out₀ store records a nodes work placed n p t₀ out t = placed - t
 
 loop-holds : tie.Need-loop-holds Inv-loop μ-loop
 loop-holds c = objects-none _ _ _ _ _
@@ -31,18 +33,18 @@ mul-place c = search needs
 shared-slice-read-place : tie.Need-shared-slice-read-place Inv-loop μ-loop
 shared-slice-read-place c = search needs
 
-object-of-requires : tie.Need-object-of-requires Inv-loop μ-loop
-object-of-requires c κs = search needs
+origin-of-requires : tie.Need-origin-of-requires Inv-loop μ-loop
+origin-of-requires c κs = search needs
 
 cast-closed-span : tie.Need-cast-closed-span Inv-loop μ-loop
-cast-closed-span c = let known = ap (λ (x : ObjectId). x .0) (c .before .object-of .ensures) in omega arith
+cast-closed-span c = let known = ap (λ (x : ObjectId). x .0) (c .before .origin-of .ensures) in omega arith
 
 closed-span-requires : tie.Need-closed-span-requires Inv-loop μ-loop
 closed-span-requires c κs =
     let at-id = c .before in
     let at-node = at-id .before .before .before in
     let pre = at-node .before .before .before .before .before .before .before .pre in
-    span-asked pre (omega arith) (at-node .node-at .ensures) (at-id .object-of .ensures)
+    span-asked pre (omega arith) (at-node .node-at .ensures) (at-id .origin-of .ensures)
 
 sub-write-object : tie.Need-sub-write-object Inv-loop μ-loop
 sub-write-object c =
@@ -52,7 +54,7 @@ sub-write-object c =
     let at-loop = at-node .before .before in
     let pre = at-loop .before .before .before .before .before .pre in
     let node = at-node .node-at .ensures in
-    let id = at-id .object-of .ensures in
+    let id = at-id .origin-of .ensures in
     let span = at-span .closed-span .ensures in
     omega (arith, object-room pre (omega arith) node id span (at-loop .loop .inv) refl)
 
@@ -70,7 +72,7 @@ sub-write-object-2 c =
     let at-loop = at-node .before .before in
     let pre = at-loop .before .before .before .before .before .pre in
     let node = at-node .node-at .ensures in
-    let id = at-id .object-of .ensures in
+    let id = at-id .origin-of .ensures in
     let span = at-span .closed-span .ensures in
     bytes-order pre (omega arith) node id span
 
@@ -85,7 +87,7 @@ part-write-object-end-2 c =
     let at-loop = at-node .before .before in
     let pre = at-loop .before .before .before .before .before .pre in
     let node = at-node .node-at .ensures in
-    let id = at-id .object-of .ensures in
+    let id = at-id .origin-of .ensures in
     let span = at-span .closed-span .ensures in
     bytes-inside pre (omega arith) node id span
 
@@ -97,7 +99,7 @@ write-object-requires c κs =
     let at-loop = at-node .before .before in
     let pre = at-loop .before .before .before .before .before .pre in
     let node = at-node .node-at .ensures in
-    let id = at-id .object-of .ensures in
+    let id = at-id .origin-of .ensures in
     let span = at-span .closed-span .ensures in
     let room = object-room pre (omega arith) node id span (at-loop .loop .inv) refl in
     (object-node pre (omega arith) node, simp (length-take, length-drop) (omega arith), object-fields pre (omega arith) node id span)
@@ -119,7 +121,7 @@ loop-again c =
     let at-loop = at-node .before .before in
     let pre = at-loop .before .before .before .before .before .pre in
     let node = at-node .node-at .ensures in
-    let id = at-id .object-of .ensures in
+    let id = at-id .origin-of .ensures in
     let span = at-span .closed-span .ensures in
     objects-next pre (omega arith) node id span (at-loop .loop .inv) refl (c .before .before .write-object .ensures)
 
@@ -140,7 +142,7 @@ write-table-spec =
     add-j
     mul-place
     shared-slice-read-place
-    object-of-requires
+    origin-of-requires
     cast-closed-span
     closed-span-requires
     sub-write-object

@@ -40,7 +40,9 @@ loop-less : tie.Need-loop-less Inv-loop μ-loop
 loop-less c = search needs
 
 loop-again : tie.Need-loop-again Inv-loop μ-loop
-loop-again c = copying-next _ _ _ _ _ _ (search needs) (search needs) (search needs) (c .before .before .loop .inv)
+loop-again c =
+    let pre = c .before .before .before .pre in
+    copying-next _ _ _ _ _ _ (search needs) (c .before .before .loop .inv) (pre .0) (pre .1) (pre .2)
 
 same-length : tie.Need-same-length Inv-loop μ-loop
 same-length c = search needs
