@@ -20,6 +20,8 @@ pub struct Answer {
     pub parent: u64,
     pub field: u64,
     pub needed: u64,
+    /// Copies made for a packed table.
+    pub copies: u64,
 }
 
 pub const DONE: u64 = 0;

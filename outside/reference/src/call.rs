@@ -9,14 +9,27 @@ use crate::session;
 /// given lengths.
 #[derive(Clone, Debug, PartialEq, Eq)]
 pub enum Call {
-    Start { pieces: u32, links: u32 },
+    Start {
+        pieces: u32,
+        links: u32,
+    },
     Open,
     Put(Vec<u8>),
-    Link { width: u32, id: u32, inner: u32 },
+    Link {
+        width: u32,
+        id: u32,
+        inner: u32,
+    },
     Close,
     Drop,
     Tally,
-    Pack { id: u32, output: usize, work: usize },
+    Pack {
+        id: u32,
+        /// How many copies are allowed.
+        copies: u32,
+        output: usize,
+        work: usize,
+    },
 }
 
 /// The two stores that every call of a run lends.
@@ -74,7 +87,7 @@ impl Stores {
             Call::Close => session::close(bytes, records),
             Call::Drop => session::drop(bytes, records),
             Call::Tally => session::tally(bytes, records),
-            Call::Pack { id, .. } => pack(bytes, records, *id, output, work),
+            Call::Pack { id, copies, .. } => pack(bytes, records, *id, *copies, output, work),
         }
     }
 }

@@ -1,6 +1,8 @@
-//! The twenty-four hand-counted cases as lists of calls.
+//! The twenty-eight hand-counted cases as lists of calls, those with copies in
+//! `copy_cases.rs`.
 
 use crate::call::Call;
+use crate::copy_cases::copy_cases;
 use crate::limits;
 
 /// A run of calls on a byte store and a record store of the given lengths.
@@ -10,7 +12,8 @@ pub struct Case {
     pub store: usize,
     pub records: usize,
     pub calls: Vec<Call>,
-    work: usize,
+    /// Of the last start.
+    limits: (u32, u32),
 }
 
 impl Case {
@@ -22,7 +25,7 @@ impl Case {
             store,
             records: limits::record_need(pieces.into(), links.into()) as usize,
             calls: vec![Call::Start { pieces, links }],
-            work: limits::work_need(pieces.into(), links.into()) as usize,
+            limits: (pieces, links),
         }
     }
 
@@ -38,7 +41,7 @@ impl Case {
     }
 
     pub fn start(mut self, pieces: u32, links: u32) -> Case {
-        self.work = limits::work_need(pieces.into(), links.into()) as usize;
+        self.limits = (pieces, links);
         self.call(Call::Start { pieces, links })
     }
 
@@ -77,9 +80,21 @@ impl Case {
         self.call(Call::Tally)
     }
 
+    /// A pack without copies.
     pub fn pack(self, id: u32, output: usize) -> Case {
-        let work = self.work;
-        self.call(Call::Pack { id, output, work })
+        self.pack_copying(id, 0, output)
+    }
+
+    /// A pack with up to so many copies.
+    pub fn pack_copying(self, id: u32, copies: u32, output: usize) -> Case {
+        let (pieces, links) = self.limits;
+        let need = limits::work_need(pieces.into(), links.into(), copies.into());
+        self.call(Call::Pack {
+            id,
+            copies,
+            output,
+            work: need as usize,
+        })
     }
 
     /// Opens a piece, puts its bytes if it has any, links and closes.
@@ -122,6 +137,12 @@ impl Case {
 const HEADER: [u8; 4] = [0, 1, 0, 2];
 
 pub fn hand_counted_cases() -> Vec<Case> {
+    let mut cases = without_copies();
+    cases.extend(copy_cases());
+    cases
+}
+
+fn without_copies() -> Vec<Case> {
     vec![
         case_1(),
         case_2("2 store 11", 11),

@@ -20,7 +20,7 @@ pub struct Node {
     pub links: Vec<Link>,
 }
 
-/// Pieces numbered by id. Every child's id is below its parent's.
+/// Pieces numbered by id, and behind them the copies made of them.
 #[derive(Clone, Debug, PartialEq, Eq)]
 pub struct Graph {
     pub nodes: Vec<Node>,
@@ -50,41 +50,49 @@ impl Graph {
         }
     }
 
-    /// For each piece up to the root, whether the root reaches it.
-    pub fn reached(&self, root: usize) -> Vec<bool> {
-        let mut reached = vec![false; root + 1];
-        reached[root] = true;
-        for id in (0..=root).rev() {
-            if reached[id] {
-                for link in &self.nodes[id].links {
-                    reached[link.child] = true;
-                }
+    /// For each node, whether the root reaches it.
+    fn reached(&self, root: usize) -> Vec<bool> {
+        let mut reached = vec![false; self.nodes.len()];
+        let mut found = vec![root];
+        while let Some(id) = found.pop() {
+            if !reached[id] {
+                reached[id] = true;
+                found.extend(self.nodes[id].links.iter().map(|link| link.child));
             }
         }
         reached
     }
 
-    /// Sum of the sizes of the reached pieces.
-    pub fn table_length(&self, root: usize) -> u64 {
+    /// How many links of reached nodes lead to each node.
+    pub fn incoming(&self, root: usize) -> Vec<usize> {
         let reached = self.reached(root);
-        (0..=root)
-            .filter(|&id| reached[id])
-            .map(|id| self.nodes[id].size)
-            .sum()
+        let mut count = vec![0; self.nodes.len()];
+        for id in (0..self.nodes.len()).filter(|&id| reached[id]) {
+            for link in &self.nodes[id].links {
+                count[link.child] += 1;
+            }
+        }
+        count
     }
 
-    /// For each piece up to the root, the least sum of weights over all paths
-    /// from the root, if there is a path.
+    /// For each node, the least sum of weights over all paths from the root, if
+    /// there is a path.
     pub fn distances(&self, root: usize) -> Vec<Option<u64>> {
-        let mut least: Vec<Option<u64>> = vec![None; root + 1];
+        let mut least: Vec<Option<u64>> = vec![None; self.nodes.len()];
+        let mut waiting = self.incoming(root);
+        let mut settled = vec![(root, 0)];
+        // A distance is settled once all links into its node are passed.
         least[root] = Some(0);
-        // Parents come before their children, so a distance is final when used.
-        for id in (0..=root).rev() {
-            let Some(own) = least[id] else { continue };
+        while let Some((id, own)) = settled.pop() {
             for link in &self.nodes[id].links {
                 let through = own + self.weight(link);
-                let known = &mut least[link.child];
-                *known = Some(known.map_or(through, |other| other.min(through)));
+                let child = link.child;
+                let known = least[child].map_or(through, |other| other.min(through));
+                least[child] = Some(known);
+                waiting[child] -= 1;
+                if waiting[child] == 0 {
+                    settled.push((child, known));
+                }
             }
         }
         least

@@ -13,6 +13,8 @@
 pub mod answer;
 pub mod call;
 pub mod cases;
+pub mod copies;
+mod copy_cases;
 pub mod graph;
 pub mod graphs;
 pub mod history;

@@ -18,8 +18,8 @@ pub fn told(call: &Call, answer: &Answer) -> String {
     match call {
         Call::Close => format!("{counts} id={}", answer.id),
         Call::Pack { .. } => format!(
-            "{counts} length={} parent={} field={} needed={}",
-            answer.length, answer.parent, answer.field, answer.needed
+            "{counts} length={} parent={} field={} needed={} copies={}",
+            answer.length, answer.parent, answer.field, answer.needed, answer.copies
         ),
         _ => counts,
     }
@@ -36,7 +36,12 @@ pub fn script(call: &Call) -> String {
         Call::Close => "e".to_string(),
         Call::Drop => "d".to_string(),
         Call::Tally => "t".to_string(),
-        Call::Pack { id, output, work } => format!("a {id} {output} {work}"),
+        Call::Pack {
+            id,
+            copies,
+            output,
+            work,
+        } => format!("a {id} {copies} {output} {work}"),
     }
 }
 

@@ -1,6 +1,7 @@
 //! The three placing orders, the places they give and the first overflow.
 
 use crate::graph::{Graph, Link};
+use crate::limits;
 use crate::spaces;
 use std::cmp::Reverse;
 use std::collections::{BinaryHeap, VecDeque};
@@ -37,8 +38,13 @@ pub fn by_distance(graph: &Graph, root: usize) -> Placing {
 /// Next is the ready piece of least distance and 4,294,967,296 for each number
 /// of its space, equal ones by longest ready.
 pub fn by_spaces(graph: &Graph, root: usize) -> Placing {
-    let distances = graph.distances(root);
     let numbers = spaces::numbers(graph, &by_distance(graph, root).order);
+    in_spaces(graph, root, &numbers)
+}
+
+/// The same where the numbers of the spaces are known.
+pub fn in_spaces(graph: &Graph, root: usize, numbers: &[u64]) -> Placing {
+    let distances = graph.distances(root);
     let keys = distances.iter().zip(numbers);
     let keys = keys.map(|(distance, number)| Some((*distance)? + number * 4_294_967_296));
     place(graph, order(graph, root, KeyQueue::by(keys.collect())))
@@ -92,7 +98,7 @@ impl Ready for KeyQueue {
 /// A piece is ready when the last field of its reached parents is passed, so
 /// those made ready by one parent come in the order of their last field in it.
 fn order(graph: &Graph, root: usize, mut ready: impl Ready) -> Vec<usize> {
-    let mut waiting = fields_into(graph, root);
+    let mut waiting = graph.incoming(root);
     let mut order = Vec::new();
     ready.add(root);
     while let Some(id) = ready.next() {
@@ -105,18 +111,6 @@ fn order(graph: &Graph, root: usize, mut ready: impl Ready) -> Vec<usize> {
         }
     }
     order
-}
-
-/// How many fields of reached parents each piece has.
-fn fields_into(graph: &Graph, root: usize) -> Vec<usize> {
-    let reached = graph.reached(root);
-    let mut count = vec![0; root + 1];
-    for id in (0..=root).filter(|&id| reached[id]) {
-        for link in &graph.nodes[id].links {
-            count[link.child] += 1;
-        }
-    }
-    count
 }
 
 fn place(graph: &Graph, order: Vec<usize>) -> Placing {
@@ -135,9 +129,9 @@ pub fn offset(place_of: &[u64], parent: usize, link: &Link) -> u64 {
     place_of[link.child] - place_of[parent] - link.inner
 }
 
-/// Width 2 holds up to 65,535; widths 3 and 4 always fit.
+/// With copies a table may be longer than any width can count.
 fn fits(link: &Link, offset: u64) -> bool {
-    link.width != 2 || offset <= 65_535
+    offset < limits::capacity(link.width as u32)
 }
 
 impl Placing {
@@ -165,5 +159,11 @@ impl Placing {
             }
         }
         None
+    }
+
+    /// Where the last node ends.
+    pub fn length(&self, graph: &Graph) -> u64 {
+        let last = self.order.last().map_or(0, |&id| graph.nodes[id].size);
+        self.places.last().map_or(0, |&place| place + last)
     }
 }

@@ -20,13 +20,24 @@ pub fn shows(table: &[u8], reading: &Rc<Reading>) -> bool {
 
 /// The same, with the first fault met.
 pub fn check(table: &[u8], reading: &Rc<Reading>) -> Result<(), Fault> {
+    shown(table, reading).map(|_| ())
+}
+
+/// All that the table shows when it is read from its first byte, each place with
+/// the reading shown there.
+pub fn shown<'a>(
+    table: &[u8],
+    reading: &'a Rc<Reading>,
+) -> Result<Vec<(u64, &'a Rc<Reading>)>, Fault> {
     let mut met = HashSet::new();
+    let mut shown = Vec::new();
     let mut waiting = vec![(0, reading)];
     while let Some((place, reading)) = waiting.pop() {
         // What was looked at once at a place need not be looked at again.
         if !met.insert((place, Rc::as_ptr(reading))) {
             continue;
         }
+        shown.push((place, reading));
         let part = part(table, place, reading.size()).ok_or(Fault::PastEnd { place })?;
         if !agrees_outside_fields(part, reading) {
             return Err(Fault::Differs { place });
@@ -36,7 +47,7 @@ pub fn check(table: &[u8], reading: &Rc<Reading>) -> Result<(), Fault> {
             waiting.push((place + field.inner as u64 + offset, &field.child));
         }
     }
-    Ok(())
+    Ok(shown)
 }
 
 fn part(table: &[u8], place: u64, size: usize) -> Option<&[u8]> {

@@ -344,8 +344,13 @@ fn refusal_cases() -> Vec<Case> {
 }
 
 fn pack_refusals() -> Case {
-    let need = limits::work_need(4, 3) as usize;
-    let pack = |id, output, work| Call::Pack { id, output, work };
+    let need = limits::work_need(4, 3, 0) as usize;
+    let pack = |id, output, work| Call::Pack {
+        id,
+        copies: 0,
+        output,
+        work,
+    };
     over_middle(Case::new("pack refusals in order", 4, 3, 70_000), 65_532, 2)
         .open()
         .call(pack(9, 0, need - 1))
@@ -353,8 +358,9 @@ fn pack_refusals() -> Case {
         .drop_piece()
         .call(pack(9, 0, 0))
         .call(pack(3, 0, need))
-        .call(pack(2, 65_536, need))
-        .call(pack(2, 65_537, need))
+        .call(pack(2, 0, need))
         .call(pack(2, 65_540, need + 3))
+        .call(pack(1, 65_532, need))
+        .call(pack(1, 65_533, need))
         .call(pack(0, 1, need + 3))
 }

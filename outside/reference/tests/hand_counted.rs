@@ -1,4 +1,4 @@
-//! The twenty-four cases counted by hand, and those of width 3.
+//! The cases counted by hand without copies, and those of width 3.
 
 mod common;
 

@@ -23,6 +23,7 @@ fn the_surplus_and_the_rest_of_the_output_stand() {
     let need = session.work;
     let told = session.stores.run(&Call::Pack {
         id: 1,
+        copies: 0,
         output: 7,
         work: need + 2,
     });
@@ -39,10 +40,11 @@ fn ten_and_eleven_clear_the_work_memory_and_write_no_table() {
     let mut session = two_pieces(65_530);
     session.piece(&[], &[(2, 1), (2, 0)]);
     let before = session.stores.clone();
-    for (output, number) in [(65_536, 10), (65_537, 11)] {
+    for (id, output, number) in [(1, 65_532, 10), (2, 65_537, 11)] {
         let need = session.work;
         let told = session.stores.run(&Call::Pack {
-            id: 2,
+            id,
+            copies: 0,
             output,
             work: need + 2,
         });
@@ -60,6 +62,7 @@ fn other_refusals_leave_the_work_memory() {
     let need = session.work;
     let pack = |id, work| Call::Pack {
         id,
+        copies: 0,
         output: 9,
         work,
     };
@@ -85,7 +88,7 @@ fn other_refusals_leave_the_work_memory() {
 fn the_need_goes_by_the_limits_and_not_by_the_counts() {
     let mut session = Session::new(16_384, 65_536, 8);
     session.piece(b"x", &[]);
-    assert_eq!(session.work, 10 * 16_384 + 2 * 65_536);
+    assert_eq!(session.work, 11 * 16_384 + 2 * 65_536);
     assert_eq!(session.pack(0, 1).answer.number, 0);
     session.work -= 1;
     assert_eq!(session.pack(0, 1).answer, Answer::bare(13));
@@ -97,7 +100,10 @@ fn needs_stay_within_their_bound() {
         for links in [0, 1, 65_535, 65_536] {
             let most = 4_096 + 64 * (pieces + links);
             assert!(limits::record_need(pieces, links) <= most);
-            assert!(limits::work_need(pieces, links) <= most);
+            for copies in [0, 1, 2, 1_023, 1_024] {
+                let most = most + 64 * copies * (links + 1);
+                assert!(limits::work_need(pieces, links, copies) <= most);
+            }
         }
     }
 }

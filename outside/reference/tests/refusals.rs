@@ -192,22 +192,30 @@ fn a_duplicate_is_never_told_8() {
 }
 
 #[test]
-fn pack_tells_13_9_4_10_11_in_this_order() {
+fn pack_tells_13_9_4_11_10_in_this_order() {
     let mut session = Session::new(4, 3, 70_000);
     session.piece(b"x", &[]);
     session.piece(&vec![1; 65_530], &[(2, 0)]);
     session.piece(&[], &[(2, 1), (2, 0)]);
-    let need = 10 * 4 + 2 * 3;
-    let pack = |id, output, work| Call::Pack { id, output, work };
+    let need = 11 * 4 + 2 * 3;
+    let pack = |id, output, work| Call::Pack {
+        id,
+        copies: 0,
+        output,
+        work,
+    };
     session.open();
     assert_eq!(session.run(pack(9, 0, need - 1)), told(13, [0; 4]));
     assert_eq!(session.run(pack(9, 0, need)), told(9, [65_537, 3, 3, 1]));
     session.drop_piece();
     assert_eq!(session.run(pack(9, 0, 0)), told(13, [0; 4]));
     assert_eq!(session.run(pack(3, 0, need)), told(4, [65_537, 3, 3, 0]));
-    let short = session.run(pack(2, 65_536, need));
+    for output in [0, 65_536, 65_537] {
+        let unfit = session.run(pack(2, output, need));
+        assert_eq!((unfit.number, unfit.bytes, unfit.length), (11, 65_537, 0));
+        assert_eq!((unfit.parent, unfit.field, unfit.needed), (2, 2, 65_536));
+    }
+    let short = session.run(pack(1, 65_532, need));
     assert_eq!(short, told(10, [65_537, 3, 3, 0]));
-    let unfit = session.run(pack(2, 65_537, need));
-    assert_eq!((unfit.number, unfit.bytes, unfit.length), (11, 65_537, 0));
-    assert_eq!((unfit.parent, unfit.field, unfit.needed), (2, 2, 65_536));
+    assert_eq!(session.run(pack(1, 65_533, need)).length, 65_533);
 }

@@ -5,7 +5,7 @@ mod common;
 
 use common::Numbers;
 use reference::answer::{Answer, NUMBERS};
-use reference::call::{Call, Stores, STALE_BYTE, STALE_WORK};
+use reference::call::{Call, Stores, Told, STALE_BYTE, STALE_WORK};
 use reference::cases::{hand_counted_cases, Case};
 use reference::history::History;
 use reference::limits;
@@ -13,6 +13,8 @@ use reference::random::{allowed_inner, any_inner};
 use reference::reader;
 use reference::reading::has_inner_start;
 use reference::traps::trap_cases;
+use std::collections::HashSet;
+use std::rc::Rc;
 
 /// A session and its history, side by side.
 struct Pair {
@@ -25,6 +27,8 @@ struct Pair {
     /// Of inner starts: accepted links with one above 0, links refused for it
     /// alone, and packed tables with one above 0.
     inner: [usize; 3],
+    /// Copies in all tables.
+    copies: u64,
 }
 
 impl Pair {
@@ -40,6 +44,7 @@ impl Pair {
             told: [0; NUMBERS],
             linked: 0,
             inner: [0; 3],
+            copies: 0,
         }
     }
 
@@ -63,11 +68,11 @@ impl Pair {
         match self.history.feed(call, store, records) {
             Some(expected) => assert_eq!(told.answer, expected, "{call:?}"),
             None => {
+                assert_eq!(self.stores, before);
+                self.check_pack(call, &told);
                 let Call::Pack { id, .. } = *call else {
                     panic!("only a pack is not judged");
                 };
-                assert_eq!(self.stores, before);
-                self.check_pack(id, &told.answer, &told.output, &told.work);
                 if let (0, Some(root)) = (number, self.history.reading(id)) {
                     self.linked += usize::from(told.answer.length > root.size() as u64);
                     self.inner[2] += usize::from(has_inner_start(root));
@@ -80,41 +85,63 @@ impl Pair {
         assert_eq!(self.stores.run(&Call::Tally).answer, self.history.tally());
     }
 
-    fn check_pack(&self, id: u32, answer: &Answer, output: &[u8], work: &[u64]) {
+    fn check_pack(&mut self, call: &Call, told: &Told) {
+        let Call::Pack { id, copies, .. } = *call else {
+            panic!("only a pack is not judged");
+        };
+        let (answer, output) = (&told.answer, &told.output);
+        self.check_number(id, copies, told);
+        let mut written = 0;
+        if answer.number == 0 {
+            written = answer.length as usize;
+            let root = self.history.reading(id).unwrap();
+            let shown = reader::shown(&output[..written], root).unwrap();
+            // Each copy is one place more at which a reading is shown.
+            let sizes: usize = shown.iter().map(|(_, reading)| reading.size()).sum();
+            assert_eq!(sizes, written);
+            let different: HashSet<_> = shown
+                .iter()
+                .map(|(_, reading)| Rc::as_ptr(reading))
+                .collect();
+            assert_eq!((shown.len() - different.len()) as u64, answer.copies);
+            assert!(answer.copies <= copies.into());
+            if answer.copies == 0 {
+                assert_eq!(Some(answer.length), self.history.table_length(id));
+            }
+            self.copies += answer.copies;
+        }
+        assert!(output[written..].iter().all(|&byte| byte == STALE_BYTE));
+    }
+
+    fn check_number(&self, id: u32, copies: u32, told: &Told) {
+        let (number, work) = (told.answer.number, &told.work);
         let tally = self.history.tally();
         let limit = |word: usize| u64::from(self.stores.records[word]);
         let pieces = limit(0);
-        let need = limits::work_need(pieces, limit(134 + pieces as usize)) as usize;
-        let cleared = matches!(answer.number, 0 | 10 | 11);
-        if cleared {
-            assert!(work[..need].iter().all(|&word| word == 0));
-            assert!(work[need..].iter().all(|&word| word == STALE_WORK));
-        } else {
-            assert!(work.iter().all(|&word| word == STALE_WORK));
-        }
-        let expected = if work.len() < need {
-            13
-        } else if tally.depth > 0 {
-            9
-        } else if u64::from(id) >= tally.objects {
-            4
-        } else if (output.len() as u64) < self.history.table_length(id).unwrap() {
-            10
-        } else if answer.number == 11 {
-            assert!(answer.needed > 65_535);
-            11
+        let need = limits::work_need(pieces, limit(134 + pieces as usize), copies.into()) as usize;
+        let cleared = if matches!(number, 0 | 10 | 11) {
+            need
         } else {
             0
         };
-        assert_eq!(answer.number, expected);
-        let mut written = 0;
-        if expected == 0 {
-            assert_eq!(answer.length, self.history.table_length(id).unwrap());
-            written = answer.length as usize;
-            let reading = self.history.reading(id).unwrap();
-            assert_eq!(reader::check(&output[..written], reading), Ok(()));
-        }
-        assert!(output[written..].iter().all(|&byte| byte == STALE_BYTE));
+        assert!(work[..cleared].iter().all(|&word| word == 0));
+        assert!(work[cleared..].iter().all(|&word| word == STALE_WORK));
+        let output = told.output.len() as u64;
+        let expected: &[u64] = if copies > 1_024 || work.len() < need {
+            &[13]
+        } else if tally.depth > 0 {
+            &[9]
+        } else if u64::from(id) >= tally.objects {
+            &[4]
+        } else if output < self.history.table_length(id).unwrap() {
+            &[10, 11]
+        } else if copies == 0 {
+            &[0, 11]
+        } else {
+            &[0, 10, 11]
+        };
+        assert!(expected.contains(&number), "{number} of {expected:?}");
+        assert_eq!(number == 11, told.answer.needed > 65_535);
     }
 }
 
@@ -157,8 +184,9 @@ fn any_call(numbers: &mut Numbers, history: &History, most: usize) -> Call {
     };
     let pack = |numbers: &mut Numbers| Call::Pack {
         id: any_id(numbers, closed),
+        copies: numbers.one_of(&[0, 0, 0, 0, 0, 0, 0, 0, 0, 1, 1, 2, 1_024, 1_025]),
         output: numbers.below(6 * most),
-        work: 100 + numbers.below(100),
+        work: 100 + numbers.below(180),
     };
     let start = |numbers: &mut Numbers| Call::Start {
         pieces: numbers.below(13) as u32,
@@ -186,7 +214,7 @@ fn any_call(numbers: &mut Numbers, history: &History, most: usize) -> Call {
 fn many_small_runs() {
     let mut told = [0; NUMBERS];
     let (mut linked, mut inner) = (0, [0; 3]);
-    for seed in 0..4_000 {
+    for seed in 0..6_000 {
         let mut numbers = Numbers::new(seed + 10);
         let (pieces, links) = (1 + numbers.below(12) as u32, numbers.below(17) as u32);
         let store = 1 + numbers.below(90);
@@ -215,8 +243,8 @@ fn many_small_runs() {
 
 #[test]
 fn runs_with_large_pieces() {
-    let (mut told, mut inner) = ([0; NUMBERS], 0);
-    for seed in 0..60 {
+    let (mut told, mut inner, mut copies) = ([0; NUMBERS], 0, 0);
+    for seed in 0..100 {
         let mut numbers = Numbers::new(seed + 10_000);
         let (pieces, links) = (10, 24);
         let records = limits::record_need(10, 24) as usize;
@@ -252,18 +280,22 @@ fn runs_with_large_pieces() {
             }
         }
         for id in 0..9 {
+            let copies = numbers.one_of(&[0, 1, 8, 8]);
             pair.run(&Call::Pack {
                 id,
-                output: 400_000,
-                work: 200,
+                copies,
+                output: 500_000,
+                work: limits::work_need(10, 24, copies.into()) as usize,
             });
         }
         for (sum, count) in told.iter_mut().zip(pair.told) {
             *sum += count;
         }
         inner += pair.inner[2];
+        copies += pair.copies;
     }
     assert!(told[11] > 20 && told[16] > 20, "{told:?}");
+    assert!(copies > 10, "{copies} copies");
     assert!(inner > 100, "{inner} tables with inner starts");
 }
 
@@ -286,8 +318,9 @@ fn a_long_chain() {
     }
     pair.run(&Call::Pack {
         id: count - 1,
+        copies: 0,
         output: 1_000,
-        work: 10 * 400 + 2 * 400,
+        work: 11 * 400 + 2 * 400,
     });
     assert_eq!(pair.history.table_length(count - 1), Some(799));
     assert_eq!(pair.told[0], 3 * 400 + 1);
@@ -318,8 +351,9 @@ fn all_pieces_and_links_of_the_limits() {
     }
     pair.run(&Call::Pack {
         id: pieces - 1,
+        copies: 0,
         output: 300_000,
-        work: 10 * 16_384 + 2 * 65_536,
+        work: 11 * 16_384 + 2 * 65_536,
     });
     assert_eq!(pair.history.tally().objects, 16_384);
     assert_eq!((pair.linked, pair.inner[2]), (1, 1));

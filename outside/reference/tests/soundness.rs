@@ -37,6 +37,7 @@ fn calls() -> [Call; 7] {
         Call::Tally,
         Call::Pack {
             id: 0,
+            copies: 0,
             output: 24,
             work: 52,
         },

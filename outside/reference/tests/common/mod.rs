@@ -1,6 +1,8 @@
 //! Helpers shared by the tests.
 #![allow(dead_code, unused_imports)]
 
+pub mod slow;
+
 use reference::answer::Answer;
 use reference::call::{Call, Stores, Told};
 use reference::limits;
@@ -9,7 +11,9 @@ pub use reference::random::Numbers;
 /// A started session with just as many words as needed.
 pub struct Session {
     pub stores: Stores,
+    /// What a pack without copies needs.
     pub work: usize,
+    limits: (u64, u64),
 }
 
 impl Session {
@@ -17,7 +21,8 @@ impl Session {
         let records = limits::record_need(pieces.into(), links.into()) as usize;
         let mut session = Session {
             stores: Stores::new(store, records),
-            work: limits::work_need(pieces.into(), links.into()) as usize,
+            work: limits::work_need(pieces.into(), links.into(), 0) as usize,
+            limits: (pieces.into(), links.into()),
         };
         let started = session.run(Call::Start { pieces, links });
         assert_eq!(started, Answer::default());
@@ -57,8 +62,30 @@ impl Session {
     }
 
     pub fn pack(&mut self, id: u32, output: usize) -> Told {
-        let work = self.work;
-        self.stores.run(&Call::Pack { id, output, work })
+        let (copies, work) = (0, self.work);
+        self.stores.run(&Call::Pack {
+            id,
+            copies,
+            output,
+            work,
+        })
+    }
+
+    /// What a pack needs that allows so many copies.
+    pub fn need(&self, copies: u32) -> usize {
+        let (pieces, links) = self.limits;
+        limits::work_need(pieces, links, copies.into()) as usize
+    }
+
+    /// A pack that allows so many copies.
+    pub fn pack_copying(&mut self, id: u32, copies: u32, output: usize) -> Told {
+        let work = self.need(copies);
+        self.stores.run(&Call::Pack {
+            id,
+            copies,
+            output,
+            work,
+        })
     }
 
     /// Opens, puts, links and closes a piece, all accepted, and gives its id.
