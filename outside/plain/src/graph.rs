@@ -1,39 +1,32 @@
 //! What the root reaches, and how far off it is.
 
-use crate::session::Session;
+use crate::session::{Objects, Session};
 
-pub struct Reach {
-    /// Fields of reached objects that lead to each object.
-    pub incoming: Vec<u32>,
-    /// Bytes of all reached objects.
-    pub length: usize,
-}
-
-/// A child's id is below its parent's, so one pass down the ids meets every
-/// object after all its parents.
-pub fn reach(session: &Session, root: u32) -> Reach {
+/// Fields of reached objects that lead to each object up to the root. A child's
+/// id is below its parent's, so one pass down the ids meets every object after
+/// all its parents.
+pub fn incoming(session: &Session, root: u32) -> Vec<u32> {
     let mut incoming = vec![0; root as usize + 1];
-    let mut length = 0;
     for id in (0..=root).rev() {
         if id < root && incoming[id as usize] == 0 {
             continue;
         }
-        length += session.size(id) as usize;
         for &[_, _, _, child] in session.links(id) {
             incoming[child as usize] += 1;
         }
     }
-    Reach { incoming, length }
+    incoming
 }
 
-/// The distance of each object from the root, along any topological order.
-pub fn distances(session: &Session, root: u32, order: &[u32]) -> Vec<u64> {
-    let mut distances = vec![u64::MAX; root as usize + 1];
+/// The distance from the root of each of so many objects, along any topological
+/// order.
+pub fn distances(objects: &impl Objects, count: usize, root: u32, order: &[u32]) -> Vec<u64> {
+    let mut distances = vec![u64::MAX; count];
     distances[root as usize] = 0;
     for &id in order {
         let distance = distances[id as usize];
-        for &[_, width, _, child] in session.links(id) {
-            let through = distance + u64::from(session.size(child)) + weight(width);
+        for &[_, width, _, child] in objects.links(id) {
+            let through = distance + u64::from(objects.size(child)) + weight(width);
             let least = &mut distances[child as usize];
             *least = through.min(*least);
         }

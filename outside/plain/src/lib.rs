@@ -4,6 +4,7 @@
 
 #![forbid(unsafe_code)]
 
+mod copies;
 mod graph;
 mod orders;
 mod session;
@@ -11,9 +12,18 @@ mod sound;
 mod spaces;
 mod table;
 
+use copies::{Cured, Third};
 use orders::Placing;
 use session::Session;
 use table::Overflow;
+
+/// What a written table has.
+#[derive(Clone, Copy, Debug, PartialEq, Eq)]
+pub struct Packed {
+    pub length: usize,
+    /// Copies made.
+    pub copies: u32,
+}
 
 /// Why there is no table.
 #[derive(Clone, Copy, Debug, PartialEq, Eq)]
@@ -23,6 +33,7 @@ pub enum Refusal {
     OutputShort,
     NoFit(Overflow),
     NotSound,
+    TooManyCopies,
 }
 
 impl Refusal {
@@ -34,43 +45,92 @@ impl Refusal {
             Refusal::OutputShort => 10,
             Refusal::NoFit(_) => 11,
             Refusal::NotSound => 12,
+            Refusal::TooManyCopies => 13,
         }
     }
 }
 
-/// Writes the table of a closed object at the front of the output, and gives
-/// its length.
-pub fn pack(store: &[u8], records: &[u32], root: u32, out: &mut [u8]) -> Result<usize, Refusal> {
+/// Writes the table of a closed object, with up to so many copies, at the front
+/// of the output.
+pub fn pack(
+    store: &[u8],
+    records: &[u32],
+    root: u32,
+    copies: u32,
+    out: &mut [u8],
+) -> Result<Packed, Refusal> {
     let session = sound::read(store, records).ok_or(Refusal::NotSound)?;
+    if copies > copies::MOST {
+        return Err(Refusal::TooManyCopies);
+    }
     if session.open_objects > 0 {
         return Err(Refusal::StillOpen);
     }
     if root as usize >= session.closed() {
         return Err(Refusal::NotClosed);
     }
-    let reach = graph::reach(&session, root);
-    let out = out.get_mut(..reach.length).ok_or(Refusal::OutputShort)?;
-    let placing = first_fit(&session, root, &reach.incoming).map_err(Refusal::NoFit)?;
-    table::write(&session, &placing, out);
-    Ok(reach.length)
+    let laid = first_fit(&session, root, copies).map_err(Refusal::NoFit)?;
+    let packed = laid.packed();
+    let out = out.get_mut(..packed.length).ok_or(Refusal::OutputShort)?;
+    match laid {
+        Laid::Objects(placing) => table::write(&session, &placing, out),
+        Laid::WithCopies(cured) => table::write(&cured.objects, &cured.placing, out),
+    }
+    Ok(packed)
 }
 
-/// The first of the three orders in which every offset fits its field, or the
-/// first overflow of the third.
-fn first_fit(session: &Session, root: u32, incoming: &[u32]) -> Result<Placing, Overflow> {
-    let kahn = orders::kahn(session, root, incoming);
-    if table::overflow(session, &kahn).is_none() {
-        return Ok(kahn);
+enum Laid<'a> {
+    Objects(Placing<u32>),
+    WithCopies(Cured<'a>),
+}
+
+impl Laid<'_> {
+    fn packed(&self) -> Packed {
+        match self {
+            Laid::Objects(placing) => Packed {
+                length: placing.length as usize,
+                copies: 0,
+            },
+            Laid::WithCopies(cured) => Packed {
+                length: cured.placing.length as usize,
+                copies: cured.made,
+            },
+        }
     }
-    let mut keys = graph::distances(session, root, &kahn.order);
-    let by_distance = orders::by_keys(session, root, incoming, &keys);
+}
+
+/// The first of the three orders in which every offset fits its field, the third
+/// with copies, or the first overflow of the third.
+fn first_fit<'a>(session: &'a Session<'a>, root: u32, copies: u32) -> Result<Laid<'a>, Overflow> {
+    let incoming = graph::incoming(session, root);
+    let count = incoming.len();
+    let kahn = orders::kahn(session, root, &incoming);
+    if table::overflow(session, &kahn).is_none() {
+        return Ok(Laid::Objects(kahn));
+    }
+    let mut keys = graph::distances(session, count, root, &kahn.order);
+    let by_distance = orders::by_keys(session, root, &incoming, &keys);
     if table::overflow(session, &by_distance).is_none() {
-        return Ok(by_distance);
+        return Ok(Laid::Objects(by_distance));
     }
     spaces::add(session, root, &by_distance.order, &mut keys);
-    let by_spaces = orders::by_keys(session, root, incoming, &keys);
-    match table::overflow(session, &by_spaces) {
-        None => Ok(by_spaces),
-        Some(overflow) => Err(overflow),
+    let by_spaces = orders::by_keys(session, root, &incoming, &keys);
+    let Some(unfit) = table::overflow(session, &by_spaces) else {
+        return Ok(Laid::Objects(by_spaces));
+    };
+    if copies == 0 {
+        return Err(unfit);
     }
+    let distances = graph::distances(session, count, root, &kahn.order);
+    let shares = keys
+        .iter()
+        .zip(distances)
+        .map(|(key, distance)| key - distance);
+    let third = Third {
+        incoming,
+        shares: shares.collect(),
+        order: by_spaces.order,
+        unfit,
+    };
+    copies::cure(session, root, copies, third).map(Laid::WithCopies)
 }

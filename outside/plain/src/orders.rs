@@ -1,38 +1,45 @@
 //! The orders of placing.
 
-use crate::session::Session;
+use crate::session::{Objects, Session};
 use std::cmp::Reverse;
 use std::collections::{BinaryHeap, VecDeque};
+use std::ops::{AddAssign, Sub};
 
-pub struct Placing {
+/// A number of bytes: those of a session need 32 bits, with copies 64.
+pub trait Bytes: Copy + Default + From<u32> + Into<u64> + AddAssign + Sub<Output = Self> {}
+
+impl Bytes for u32 {}
+impl Bytes for u64 {}
+
+pub struct Placing<B> {
     pub order: Vec<u32>,
-    /// The place of each placed object, by its id.
-    pub places: Vec<u32>,
-    next: u32,
+    /// The place of each placed object, by its number.
+    pub places: Vec<B>,
+    /// Bytes of all of them.
+    pub length: B,
 }
 
-impl Placing {
-    fn new(root: u32) -> Placing {
-        let ids = root as usize + 1;
+impl<B: Bytes> Placing<B> {
+    fn new(count: usize) -> Placing<B> {
         Placing {
-            order: Vec::with_capacity(ids),
-            places: vec![0; ids],
-            next: 0,
+            order: Vec::with_capacity(count),
+            places: vec![B::default(); count],
+            length: B::default(),
         }
     }
 
     fn put(&mut self, id: u32, size: u32) {
         self.order.push(id);
-        self.places[id as usize] = self.next;
-        self.next += size;
+        self.places[id as usize] = self.length;
+        self.length += size.into();
     }
 }
 
 /// Next is the object that has been ready longest.
-pub fn kahn(session: &Session, root: u32, incoming: &[u32]) -> Placing {
+pub fn kahn(session: &Session, root: u32, incoming: &[u32]) -> Placing<u32> {
     let mut waiting = incoming.to_vec();
     let mut ready = VecDeque::with_capacity(waiting.len());
-    let mut placing = Placing::new(root);
+    let mut placing = Placing::new(waiting.len());
     ready.push_back(root);
     while let Some(id) = ready.pop_front() {
         placing.put(id, session.size(id));
@@ -49,16 +56,21 @@ pub fn kahn(session: &Session, root: u32, incoming: &[u32]) -> Placing {
 
 /// Next is the ready object of the least key, of equal ones the one that has been
 /// ready longest.
-pub fn by_keys(session: &Session, root: u32, incoming: &[u32], keys: &[u64]) -> Placing {
+pub fn by_keys<B: Bytes>(
+    objects: &impl Objects,
+    root: u32,
+    incoming: &[u32],
+    keys: &[u64],
+) -> Placing<B> {
     let mut waiting = incoming.to_vec();
     let mut ready = BinaryHeap::with_capacity(waiting.len());
-    let mut placing = Placing::new(root);
+    let mut placing = Placing::new(waiting.len());
     let mut turn = 0_u32;
     ready.push(Reverse(entry(keys[root as usize], turn, root)));
     while let Some(Reverse(least)) = ready.pop() {
         let id = least as u32;
-        placing.put(id, session.size(id));
-        for &[_, _, _, child] in session.links(id) {
+        placing.put(id, objects.size(id));
+        for &[_, _, _, child] in objects.links(id) {
             let left = &mut waiting[child as usize];
             *left -= 1;
             if *left == 0 {

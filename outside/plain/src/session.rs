@@ -3,6 +3,13 @@
 /// A link record: the field's place, its width, its inner start, the child.
 pub type Link = [u32; 4];
 
+/// Objects by number.
+pub trait Objects {
+    fn size(&self, id: u32) -> u32;
+    fn bytes(&self, id: u32) -> &[u8];
+    fn links(&self, id: u32) -> &[Link];
+}
+
 pub struct Session<'a> {
     pub store: &'a [u8],
     /// Where each object ends, and last where the highest one begins.
@@ -17,18 +24,20 @@ impl<'a> Session<'a> {
     pub fn closed(&self) -> usize {
         self.begins.len() - 1
     }
+}
 
-    pub fn size(&self, id: u32) -> u32 {
+impl Objects for Session<'_> {
+    fn size(&self, id: u32) -> u32 {
         let id = id as usize;
         self.begins[id] - self.begins[id + 1]
     }
 
-    pub fn bytes(&self, id: u32) -> &'a [u8] {
+    fn bytes(&self, id: u32) -> &[u8] {
         let id = id as usize;
         &self.store[self.begins[id + 1] as usize..self.begins[id] as usize]
     }
 
-    pub fn links(&self, id: u32) -> &'a [Link] {
+    fn links(&self, id: u32) -> &[Link] {
         let id = id as usize;
         &self.links[self.link_begins[id + 1] as usize..self.link_begins[id] as usize]
     }

@@ -1,6 +1,6 @@
 //! The soundness test: what two stores that hold a session are.
 
-use crate::session::{capacity, Link, Session};
+use crate::session::{capacity, Link, Objects, Session};
 use std::ops::RangeInclusive;
 
 const OBJECT_LIMITS: RangeInclusive<usize> = 1..=16_384;

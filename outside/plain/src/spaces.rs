@@ -1,6 +1,6 @@
 //! The spaces: objects that narrow links hold together.
 
-use crate::session::{Link, Session};
+use crate::session::{Link, Objects, Session};
 
 const WIDE: u32 = 4;
 
