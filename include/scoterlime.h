@@ -13,7 +13,8 @@
  * What the areas hold is no duty: on any contents and in any order, every call ends and answers. A session goes on as long as each call gets both
  * stores as the call before left them, with the same n and an r no shorter than the need. Stores that hold no sound session are told 12.
  *
- * A refused call changes nothing, with one exception: pack's 10 and 11 clear the needed part of the work memory.
+ * A refused call changes nothing, with one exception: pack's 10 and 11 clear the needed part of the work memory. Where several reasons apply, the first
+ * in the call's list of refusals is told.
  */
 #ifndef SCOTERLIME_H
 #define SCOTERLIME_H
@@ -37,9 +38,9 @@ extern "C" {
  *    8  a new object, and piece_limit is reached
  *    9  an object is open
  *   10  the output is shorter than the table
- *   11  in none of the three orders every offset fits its field
+ *   11  in none of the three orders every offset fits its field, and no copy that is allowed cures it
  *   12  the stores do not hold a sound session
- *   13  a limit or a lent area is outside its range
+ *   13  a limit, a number of copies or a lent area is outside its range
  *   16  a field of the open object can be filled in no order: from its inner start on the object has more bytes than its width can count
  *
  * Beside 0 to 11 and 16 stand the counts after the call: bytes and links held by open and closed objects, and how many objects are closed (objects) and open (depth).
@@ -52,16 +53,19 @@ typedef struct {
     uint64_t depth;
     uint64_t id;     /* close: the closed object's id */
     uint64_t length; /* pack: the table's length in bytes */
-    uint64_t parent; /* pack's 11: the id of the object that has the field, */
+    uint64_t parent; /* pack's 11: the id of the object that has the field (a copy has its original's), */
     uint64_t field;  /* the field's place in that object, */
     uint64_t needed; /* and the offset that does not fit it */
+    uint64_t copies; /* pack: how many copies were made */
 } scoterlime_answer;
 
 /* How many words of 32 bits a session with these limits needs at records. More is allowed; the surplus is never touched. */
 uint64_t scoterlime_records_need(uint32_t piece_limit, uint32_t link_limit);
 
-/* How many words of 64 bits a pack of a session with these limits needs at work. More is allowed; the surplus is never touched. */
-uint64_t scoterlime_work_need(uint32_t piece_limit, uint32_t link_limit);
+/* How many words of 64 bits a pack that allows so many copies, of a session with these limits, needs at work. More is allowed; the surplus is
+ * never touched. For more than 1,024 copies, which no pack accepts, it tells the need of 1,024.
+ * It grows with copies * link_limit, and a pack clears all of it: allow no more copies than may be wanted. */
+uint64_t scoterlime_work_need(uint32_t piece_limit, uint32_t link_limit, uint32_t copies);
 
 /* Begins a session, whatever the stores held: clears the byte store and the needed words at records.
  * Refused: 13 (piece_limit is not 1 to 16,384, link_limit is over 65,536, n is not 1 to 16,777,216, or r is short of the need). */
@@ -94,9 +98,11 @@ scoterlime_answer scoterlime_drop(uint8_t *store, size_t n, uint32_t *records, s
 scoterlime_answer scoterlime_tally(const uint8_t *store, size_t n, const uint32_t *records, size_t r);
 
 /* Writes the table of the closed object id, itself first and then all that it reaches, to the first length bytes at out; the other bytes there stand.
- * What work held does not matter; its needed words are 0 afterwards. The session does not change.
- * Refused: 12, 13 (w is short of the need), 9, 4, 10, 11. */
-scoterlime_answer scoterlime_pack(const uint8_t *store, size_t n, const uint32_t *records, size_t r, uint32_t id,
+ * Where no order fits as it is, a field that cannot reach its object gets a copy of it, if other fields lead to that object too, as long as no more
+ * than `copies` are made; each makes the table longer by the object's size, and out must have room for it. 0 allows none.
+ * What work held does not matter; its needed words are 0 after 0, 10 and 11. The session does not change.
+ * Refused: 12, 13 (copies is over 1,024, or w is short of the need for so many), 9, 4, 11, 10. */
+scoterlime_answer scoterlime_pack(const uint8_t *store, size_t n, const uint32_t *records, size_t r, uint32_t id, uint32_t copies,
                                   uint8_t *out, size_t o, uint64_t *work, size_t w);
 
 #ifdef __cplusplus

@@ -19,11 +19,13 @@ fn main() -> Result<(), Refused> {
     let c = object(&mut session, b"c", &[d])?;
     let a = object(&mut session, b"a", &[b, c])?;
 
-    let (mut out, mut work) = ([0; 16], vec![0; work_need(4, 4)]);
-    let table = session.pack(a, &mut out, &mut work)?;
+    // No copies: every field reaches its object.
+    let (mut out, mut work) = ([0; 16], vec![0; work_need(4, 4, 0)]);
+    let packed = session.pack(a, 0, &mut out, &mut work)?;
     println!(
         "table {}",
-        table
+        packed
+            .table
             .iter()
             .map(|byte| format!(" {byte:02x}"))
             .collect::<String>()

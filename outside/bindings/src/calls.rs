@@ -11,9 +11,10 @@ pub fn records_need(piece_limit: u32, link_limit: u32) -> usize {
     unsafe { foreign::scoterlime_records_need(piece_limit, link_limit) as usize }
 }
 
-/// Words of 64 bits that a pack's work memory needs.
-pub fn work_need(piece_limit: u32, link_limit: u32) -> usize {
-    unsafe { foreign::scoterlime_work_need(piece_limit, link_limit) as usize }
+/// Words of 64 bits that the work memory needs of a pack that allows so many
+/// copies.
+pub fn work_need(piece_limit: u32, link_limit: u32, copies: u32) -> usize {
+    unsafe { foreign::scoterlime_work_need(piece_limit, link_limit, copies) as usize }
 }
 
 pub fn start(store: &mut [u8], records: &mut [u32], piece_limit: u32, link_limit: u32) -> Answer {
@@ -54,8 +55,16 @@ pub fn tally(store: &[u8], records: &[u32]) -> Answer {
     unsafe { foreign::scoterlime_tally(store.as_ptr(), n, records.as_ptr(), r) }
 }
 
-pub fn pack(store: &[u8], records: &[u32], id: u32, out: &mut [u8], work: &mut [u64]) -> Answer {
+pub fn pack(
+    store: &[u8],
+    records: &[u32],
+    id: u32,
+    copies: u32,
+    out: &mut [u8],
+    work: &mut [u64],
+) -> Answer {
     let (n, r, o, w) = (store.len(), records.len(), out.len(), work.len());
+    let (store, records) = (store.as_ptr(), records.as_ptr());
     let (out, work) = (out.as_mut_ptr(), work.as_mut_ptr());
-    unsafe { foreign::scoterlime_pack(store.as_ptr(), n, records.as_ptr(), r, id, out, o, work, w) }
+    unsafe { foreign::scoterlime_pack(store, n, records, r, id, copies, out, o, work, w) }
 }

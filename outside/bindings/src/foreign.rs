@@ -4,7 +4,7 @@ use crate::Answer;
 
 extern "C" {
     pub fn scoterlime_records_need(piece_limit: u32, link_limit: u32) -> u64;
-    pub fn scoterlime_work_need(piece_limit: u32, link_limit: u32) -> u64;
+    pub fn scoterlime_work_need(piece_limit: u32, link_limit: u32, copies: u32) -> u64;
     pub fn scoterlime_start(
         store: *mut u8,
         n: usize,
@@ -40,6 +40,7 @@ extern "C" {
         records: *const u32,
         r: usize,
         id: u32,
+        copies: u32,
         out: *mut u8,
         o: usize,
         work: *mut u64,

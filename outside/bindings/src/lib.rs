@@ -15,7 +15,7 @@ mod foreign;
 mod session;
 
 pub use calls::{records_need, work_need};
-pub use session::{Refused, Session};
+pub use session::{Packed, Refused, Session};
 
 /// What a call tells: the struct of include/scoterlime.h. Values that a call
 /// does not have are 0.
@@ -32,4 +32,5 @@ pub struct Answer {
     pub parent: u64,
     pub field: u64,
     pub needed: u64,
+    pub copies: u64,
 }

@@ -6,6 +6,13 @@ use crate::{calls, Answer};
 #[derive(Clone, Copy, Debug, PartialEq, Eq)]
 pub struct Refused(pub Answer);
 
+/// A table, at the front of the output, and how many copies were made for it.
+#[derive(Clone, Copy, Debug, PartialEq, Eq)]
+pub struct Packed<'o> {
+    pub table: &'o [u8],
+    pub copies: u32,
+}
+
 fn told(answer: Answer) -> Result<Answer, Refused> {
     match answer.number {
         0 => Ok(answer),
@@ -58,14 +65,21 @@ impl<'a> Session<'a> {
         told(calls::tally(self.store, self.records))
     }
 
-    /// The table, at the front of the output.
+    /// Packs a closed object. Where a field cannot reach a shared object, that
+    /// field may get a copy of it, as long as no more than `copies` are made.
     pub fn pack<'o>(
         &self,
         id: u32,
+        copies: u32,
         out: &'o mut [u8],
         work: &mut [u64],
-    ) -> Result<&'o [u8], Refused> {
-        let answer = told(calls::pack(self.store, self.records, id, out, work))?;
-        Ok(&out[..answer.length as usize])
+    ) -> Result<Packed<'o>, Refused> {
+        let answer = calls::pack(self.store, self.records, id, copies, out, work);
+        let answer = told(answer)?;
+        Ok(Packed {
+            table: &out[..answer.length as usize],
+            // No more than 1,024.
+            copies: answer.copies as u32,
+        })
     }
 }

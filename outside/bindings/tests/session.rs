@@ -1,6 +1,6 @@
 //! A session through the wrapper: results, refusals, and that it goes on.
 
-use bindings::{records_need, work_need, Answer, Refused, Session};
+use bindings::{records_need, work_need, Answer, Packed, Refused, Session};
 
 #[test]
 fn a_refused_call_changes_nothing() {
@@ -27,15 +27,16 @@ fn a_table_is_the_front_of_the_output() {
     session.open().unwrap();
     session.link(4, leaf, 0).unwrap();
     let root = session.close().unwrap();
-    let (mut out, mut work) = ([7; 9], vec![7; work_need(2, 1)]);
+    let (mut out, mut work) = ([7; 9], vec![7; work_need(2, 1, 0)]);
+    let table = &[0, 0, 0, 4, b'x'];
     assert_eq!(
-        session.pack(root, &mut out, &mut work),
-        Ok(&[0, 0, 0, 4, b'x'][..])
+        session.pack(root, 0, &mut out, &mut work),
+        Ok(Packed { table, copies: 0 })
     );
     assert_eq!(out[5..], [7; 4]);
     assert_eq!(
         session
-            .pack(root, &mut out[..4], &mut work)
+            .pack(root, 0, &mut out[..4], &mut work)
             .unwrap_err()
             .0
             .number,
@@ -60,9 +61,9 @@ fn an_inner_start_reaches_the_library_whole() {
     session.link(2, leaf, 4).unwrap();
     session.link(2, leaf, 0).unwrap();
     let root = session.close().unwrap();
-    let (mut out, mut work) = ([7; 9], vec![7; work_need(2, 2)]);
-    let table = session.pack(root, &mut out, &mut work).unwrap();
-    assert_eq!(table, b"head\0\x04\0\x08x");
+    let (mut out, mut work) = ([7; 9], vec![7; work_need(2, 2, 0)]);
+    let packed = session.pack(root, 0, &mut out, &mut work).unwrap();
+    assert_eq!(packed.table, b"head\0\x04\0\x08x");
 }
 
 #[test]
@@ -83,6 +84,45 @@ fn a_hopeless_object_stays_open() {
         } else {
             assert_eq!(session.close(), Ok(1));
         }
+    }
+}
+
+/// A leaf that the root links and two long objects.
+#[test]
+fn copies_reach_the_library_whole() {
+    let (mut store, mut records) = (vec![0; 80_020], vec![0; records_need(4, 5)]);
+    let mut session = Session::start(&mut store, &mut records, 4, 5).unwrap();
+    session.open().unwrap();
+    session.put(&[7; 10]).unwrap();
+    let leaf = session.close().unwrap();
+    let long = [1, 2].map(|byte| {
+        session.open().unwrap();
+        session.link(2, leaf, 0).unwrap();
+        session.put(&vec![byte; 39_998]).unwrap();
+        session.close().unwrap()
+    });
+    session.open().unwrap();
+    session.link(2, leaf, 0).unwrap();
+    for id in long {
+        session.link(4, id, 0).unwrap();
+    }
+    let root = session.close().unwrap();
+    let mut out = vec![7; 80_040];
+    for (copies, parent, needed) in [(0, root, 80_010), (1, long[0], 80_000)] {
+        let mut work = vec![7; work_need(4, 5, copies)];
+        let refused = session.pack(root, copies, &mut out, &mut work).unwrap_err();
+        let unfit = (refused.0.number, refused.0.parent, refused.0.needed);
+        assert_eq!(unfit, (11, parent.into(), needed));
+    }
+    for copies in [2, 3, 1_024] {
+        let mut work = vec![7; work_need(4, 5, copies)];
+        let packed = session.pack(root, copies, &mut out, &mut work).unwrap();
+        assert_eq!((packed.table.len(), packed.copies), (80_040, 2));
+    }
+    let mut work = vec![7; work_need(4, 5, 1_025)];
+    for copies in [1_025, 65_536, u32::MAX] {
+        let refused = session.pack(root, copies, &mut out, &mut work).unwrap_err();
+        assert_eq!(refused.0.number, 13);
     }
 }
 
