@@ -48,13 +48,27 @@ impl Checked {
         outcome
     }
 
-    /// A pack whose output is this many bytes shorter than the table.
+    /// A pack without copies whose output is this many bytes shorter than the
+    /// table.
     pub fn pack(&mut self, id: u32, less: usize, numbers: &mut Numbers) -> Outcome {
         let length = self.claims.history.table_length(id).expect("closed") as usize;
+        self.pack_copying(id, 0, length - less, numbers)
+    }
+
+    /// A pack with up to so many copies.
+    pub fn pack_copying(
+        &mut self,
+        id: u32,
+        copies: u32,
+        output: usize,
+        numbers: &mut Numbers,
+    ) -> Outcome {
+        let work = self.claims.work_need(copies);
         let call = Call::Pack {
             id,
-            output: length - less,
-            work: self.claims.work_need(),
+            copies,
+            output,
+            work,
         };
         self.run(&call, numbers)
     }

@@ -10,6 +10,7 @@ use reference::lines::script;
 use reference::reader;
 use reference::reading::{has_inner_start, Reading};
 use reference::Answer;
+use std::collections::HashSet;
 use std::rc::Rc;
 
 /// A history with the limits that it was started with.
@@ -17,7 +18,7 @@ pub struct Claims {
     pub history: History,
     pub met: Met,
     lengths: (usize, usize),
-    need: usize,
+    limits: (u32, u32),
 }
 
 impl Claims {
@@ -28,7 +29,7 @@ impl Claims {
             history: history.expect("the start is accepted"),
             met: Met::default(),
             lengths: (store, records),
-            need: limits::work_need(pieces.into(), links.into()) as usize,
+            limits: (pieces, links),
         }
     }
 
@@ -40,15 +41,16 @@ impl Claims {
         }
     }
 
-    /// Words of work memory that a pack needs now.
-    pub fn work_need(&self) -> usize {
-        self.need
+    /// Words of work memory that a pack needs now that allows so many copies.
+    pub fn work_need(&self, copies: u32) -> usize {
+        let (pieces, links) = self.limits;
+        limits::work_need(pieces.into(), links.into(), copies.into()) as usize
     }
 
     pub fn check(&mut self, call: &Call, outcome: &Outcome) {
         let (store, records) = self.lengths;
-        if let Call::Pack { id, .. } = call {
-            return self.check_pack(*id, outcome);
+        if let Call::Pack { id, copies, .. } = call {
+            return self.check_pack(*id, *copies, outcome);
         }
         self.met += Met::before(call, &self.history);
         let closed = self.history.tally().objects;
@@ -62,47 +64,59 @@ impl Claims {
             self.met += Met::closed(closed as u32, &self.history);
         }
         if let (Call::Start { pieces, links }, 0) = (call, outcome.answer.number) {
-            self.need = limits::work_need((*pieces).into(), (*links).into()) as usize;
+            self.limits = (*pieces, *links);
         }
     }
 
-    fn check_pack(&mut self, id: u32, outcome: &Outcome) {
+    fn check_pack(&mut self, id: u32, copies: u32, outcome: &Outcome) {
         let answer = &outcome.answer;
         let (before, after) = &outcome.output;
-        let expected = self.expected_number(id, before.len(), outcome.work.0.len());
-        match expected {
-            Some(number) => assert_eq!(answer.number, number),
-            None => assert!(matches!(answer.number, 0 | 11)),
-        }
+        let expected = self.expected_numbers(id, copies, before.len(), outcome.work.0.len());
+        assert!(expected.contains(&answer.number), "{answer:?}");
         self.check_tally(answer);
-        self.check_work(answer.number, &outcome.work.0, &outcome.work.1);
+        let need = self.work_need(copies.min(1_024));
+        check_work(answer.number, need, &outcome.work.0, &outcome.work.1);
         let mut written = 0;
         if answer.number == 0 {
             written = answer.length as usize;
-            assert_eq!(Some(answer.length), self.history.table_length(id));
-            let root = self.history.reading(id).expect("a packed root is closed");
-            assert_eq!(reader::check(&after[..written], root), Ok(()));
-            self.met.packed += usize::from(has_inner_start(root));
+            self.check_table(id, answer, &after[..written]);
+            assert!(answer.copies <= copies.into());
         }
         assert_eq!(before[written..], after[written..]);
-        if answer.number == 11 {
-            assert!(answer.needed > 65_535);
-        }
+        assert_eq!(answer.number == 11, answer.needed > 65_535);
     }
 
-    /// The number that the history decides; it leaves open whether one of the
-    /// orders fits.
-    fn expected_number(&self, id: u32, output: usize, work: usize) -> Option<u64> {
-        if work < self.need {
-            return Some(13);
+    /// A table shows the root's reading. It is as long as the different readings
+    /// and, for each copy made, one of them again.
+    fn check_table(&mut self, id: u32, answer: &Answer, table: &[u8]) {
+        let root = self.history.reading(id).expect("a packed root is closed");
+        let shown = reader::shown(table, root);
+        let shown = shown.unwrap_or_else(|fault| panic!("{fault:?}"));
+        let mut again = shown.clone();
+        let mut met = HashSet::new();
+        again.retain(|(_, reading)| !met.insert(Rc::as_ptr(reading)));
+        let copied: usize = again.iter().map(|(_, reading)| reading.size()).sum();
+        let different = self.history.table_length(id).expect("closed");
+        assert_eq!(answer.length, different + copied as u64);
+        assert_eq!(answer.copies, again.len() as u64);
+        self.met.packed += usize::from(has_inner_start(root));
+        self.met.copied += usize::from(answer.copies > 0);
+    }
+
+    /// The numbers that the history leaves open: whether one of the orders fits,
+    /// and how long a table with copies is.
+    fn expected_numbers(&self, id: u32, copies: u32, output: usize, work: usize) -> &'static [u64] {
+        if copies > 1_024 || work < self.work_need(copies) {
+            return &[13];
         }
         if self.history.tally().depth > 0 {
-            return Some(9);
+            return &[9];
         }
         match self.history.table_length(id) {
-            None => Some(4),
-            Some(length) if (output as u64) < length => Some(10),
-            Some(_) => None,
+            None => &[4],
+            Some(length) if (output as u64) < length => &[10, 11],
+            Some(_) if copies == 0 => &[0, 11],
+            Some(_) => &[0, 10, 11],
         }
     }
 
@@ -114,14 +128,14 @@ impl Claims {
         let counts = |a: &Answer| [a.bytes, a.links, a.objects, a.depth];
         assert_eq!(counts(answer), counts(&tally));
     }
+}
 
-    /// 0, 10 and 11 clear the needed words; the others stand.
-    fn check_work(&self, number: u64, before: &[u64], after: &[u64]) {
-        let cleared = match number {
-            0 | 10 | 11 => self.need,
-            _ => 0,
-        };
-        assert!(after[..cleared].iter().all(|&word| word == 0));
-        assert_eq!(before[cleared..], after[cleared..]);
-    }
+/// 0, 10 and 11 clear the needed words; the others stand.
+fn check_work(number: u64, need: usize, before: &[u64], after: &[u64]) {
+    let cleared = match number {
+        0 | 10 | 11 => need,
+        _ => 0,
+    };
+    assert!(after[..cleared].iter().all(|&word| word == 0));
+    assert!(before[cleared..] == after[cleared..]);
 }

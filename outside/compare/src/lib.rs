@@ -3,7 +3,7 @@
 //! * [`Pair`] runs each call on both and compares all that it tells and leaves.
 //! * [`claims`] checks what the history says of a call, [`Checked`] both.
 //! * [`met`] counts inner starts.
-//! * [`shapes`], [`groups`], [`largest`] and [`decided`] make graphs, [`made`] stores that
+//! * [`shapes`], [`groups`], [`sharing`], [`largest`] and [`decided`] make graphs, [`made`] stores that
 //!   hold one, [`tamper`] damaged stores.
 
 pub mod checked;
@@ -19,6 +19,7 @@ pub mod pair;
 pub mod proved;
 pub mod seed;
 pub mod shapes;
+pub mod sharing;
 pub mod tamper;
 
 pub use checked::Checked;

@@ -200,16 +200,35 @@ fn pack(claims: &Claims, numbers: &mut Numbers) -> Call {
         0 => length - 1,
         1 => numbers.below(length + 1),
         2 => length + numbers.below(9),
+        // With room for copies.
+        3 => 2 * length,
         _ => length,
     };
-    let need = claims.work_need();
+    let copies = any_copies(numbers);
+    let need = claims.work_need(copies.min(1_024));
     let work = match numbers.below(10) {
         0 => need - 1,
         1 => numbers.below(need),
         2 => need + numbers.below(9),
         _ => need,
     };
-    Call::Pack { id, output, work }
+    Call::Pack {
+        id,
+        copies,
+        output,
+        work,
+    }
+}
+
+/// Mostly none or a few; seldom as many as are allowed, which need much memory.
+fn any_copies(numbers: &mut Numbers) -> u32 {
+    match numbers.below(64) {
+        0 => 1_024,
+        1 => 1_025,
+        2 => numbers.next() as u32,
+        3..=31 => numbers.one_of(&[1, 1, 2, 5]),
+        _ => 0,
+    }
 }
 
 /// Mostly an id of a closed piece.

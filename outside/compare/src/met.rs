@@ -1,5 +1,5 @@
-//! How often inner starts, and closes at the edge of what a field can hold, were
-//! met.
+//! How often inner starts, closes at the edge of what a field can hold, and tables
+//! with copies were met.
 
 use reference::call::Call;
 use reference::history::History;
@@ -17,6 +17,8 @@ pub struct Met {
     pub refused: usize,
     /// Packed tables with an inner start above 0.
     pub packed: usize,
+    /// Packed tables with copies.
+    pub copied: usize,
     /// New pieces that differ from a closed one in inner starts alone.
     pub apart: usize,
     /// Accepted closes of pieces that could not have a byte more, and closes
@@ -64,19 +66,22 @@ impl Met {
         }
     }
 
-    /// Prints the counts, and gives the least of all but the last two.
+    /// Prints the counts, and gives the least of those about links and tables with
+    /// inner starts.
     pub fn least(&self) -> usize {
         let Met {
             between,
             at_field,
             refused,
             packed,
+            copied,
             apart,
             edge: [just, past],
         } = *self;
         println!("  inner starts above 0: {between} links before the field, {at_field} at it");
         println!("  {refused} links refused for theirs alone, {packed} tables with some");
         println!("  {apart} new pieces that differ from a closed one in theirs alone");
+        println!("  {copied} tables with copies");
         println!(
             "  {just} closes that one byte more would keep from passing, {past} that one byte does"
         );
@@ -93,6 +98,7 @@ impl AddAssign for Met {
         self.at_field += other.at_field;
         self.refused += other.refused;
         self.packed += other.packed;
+        self.copied += other.copied;
         self.apart += other.apart;
         for (sum, count) in self.edge.iter_mut().zip(other.edge) {
             *sum += count;

@@ -29,7 +29,9 @@ impl Proved {
             Call::Close => calls::close(bytes, records),
             Call::Drop => calls::drop(bytes, records),
             Call::Tally => calls::tally(bytes, records),
-            Call::Pack { id, .. } => calls::pack(bytes, records, *id, output, work),
+            Call::Pack { id, copies, .. } => {
+                calls::pack(bytes, records, *id, *copies, output, work)
+            }
         })
     }
 
@@ -55,5 +57,6 @@ fn told(answer: bindings::Answer) -> Answer {
         parent: answer.parent,
         field: answer.field,
         needed: answer.needed,
+        copies: answer.copies,
     }
 }

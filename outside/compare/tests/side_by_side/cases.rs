@@ -1,4 +1,4 @@
-//! The twenty-four hand-counted cases and the traps on both packers.
+//! The twenty-eight hand-counted cases and the traps on both packers.
 
 use compare::claims::Claims;
 use compare::met::Met;
@@ -159,6 +159,10 @@ fn numbers_counted_by_hand() {
     }
     let unfit = [
         ("13", 2, 2, 65_536),
+        ("25 copies 0", 3, 0, 80_010),
+        ("25 copies 1", 1, 0, 80_000),
+        ("26", 2, 6, 95_528),
+        ("27", 2, 2, 105_528),
         ("child in space 0", 3, 0, 80_010),
         ("width 3 joins", 1, 0, 80_000),
     ];
@@ -171,4 +175,12 @@ fn numbers_counted_by_hand() {
             "case {name}"
         );
     }
+}
+
+#[test]
+fn copies_counted_by_hand() {
+    let told = run(&named("25 copies 2")).0;
+    assert_eq!((told.number, told.length, told.copies), (0, 80_040, 2));
+    let (_, whole) = run_whole(&named("28"));
+    assert_eq!(whole.numbers[3..], [13, 13, 13, 0, 0]);
 }

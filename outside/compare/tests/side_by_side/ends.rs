@@ -107,8 +107,9 @@ fn soundness_at_the_ends_of_every_range() {
         let mut pair = Pair::of(made::stores(&Vec::new(), room, &mut numbers));
         let pack = Call::Pack {
             id: 0,
+            copies: 0,
             output: 0,
-            work: limits::work_need(pieces.into(), links.into()) as usize,
+            work: limits::work_need(pieces.into(), links.into(), 0) as usize,
         };
         let put = Call::Put(b"a".to_vec());
         for call in [Call::Tally, pack, Call::Open, put, Call::Close, Call::Drop] {

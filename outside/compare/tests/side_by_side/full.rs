@@ -138,9 +138,10 @@ fn nothing_more(session: &mut Session) {
     session.link(7, 2, PIECES - 1);
     session.link(4, 2, PIECES);
     session.tells(8, Call::Close);
-    let work = session.checked.claims.work_need();
+    let work = session.checked.claims.work_need(0);
     let pack = |id: usize, work| Call::Pack {
         id: id as u32,
+        copies: 0,
         output: 0,
         work,
     };

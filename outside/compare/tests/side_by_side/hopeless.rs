@@ -158,8 +158,9 @@ fn any_call(stores: &Stores, numbers: &mut Numbers) -> Call {
         6 => Call::Tally,
         _ => Call::Pack {
             id: numbers.below(pieces as usize) as u32,
+            copies: numbers.below(3) as u32,
             output: stores.bytes.len(),
-            work: limits::work_need(pieces.into(), links) as usize + 40,
+            work: limits::work_need(pieces.into(), links, 2) as usize + 40,
         },
     }
 }

@@ -30,7 +30,8 @@ fn compare(name: &str, kinds: &[(Kind, usize)]) -> Seen {
     println!("  {inner_starts} inner starts above 0, {tables} tables with some");
     assert!(inner_starts >= kinds.len() * PIECES / 2 && tables >= kinds.len() / 2);
     assert_eq!(seen.most, (PIECES, LINKS));
-    assert_eq!(seen.told[10], kinds.len());
+    // Where no order fits, too short an output is not told.
+    assert_eq!(seen.told[10], kinds.len() - seen.by_spaces[1]);
     seen
 }
 

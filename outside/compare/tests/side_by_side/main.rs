@@ -4,6 +4,7 @@
 mod apart;
 mod calls;
 mod cases;
+mod copies;
 mod ends;
 mod full;
 mod graphs;

@@ -8,54 +8,83 @@ use compare::largest::{Kind, FEW_NARROW, LINKS, MIXED, PIECES, WIDE};
 use compare::made::{self, Room};
 use compare::shapes::{self, Family, Graph, Piece};
 use compare::{seed, tamper, Numbers};
-use plain::Refusal;
+use plain::{Packed, Refusal};
 use reference::answer::NUMBERS;
 use reference::call::{Call, Stores, STALE_BYTE};
+use reference::limits;
 use reference::view::View;
+use reference::Answer;
 
 #[derive(Default)]
 struct Seen {
+    packs: usize,
     told: [usize; NUMBERS],
     /// Tables by the order that made them fit.
     by_order: [usize; 3],
 }
 
-/// Number, length, and the parent's id, field place and offset of an overflow.
-fn told_by_plain(packed: Result<usize, Refusal>) -> [u64; 5] {
+/// What the plain packer told, without the tally.
+fn told_by_plain(packed: Result<Packed, Refusal>) -> Answer {
     match packed {
-        Ok(length) => [0, length as u64, 0, 0, 0],
-        Err(refusal) => {
-            let [parent, field, needed] = match refusal {
-                Refusal::NoFit(over) => [over.parent, over.field, over.needed].map(u64::from),
-                _ => [0; 3],
-            };
-            [refusal.number(), 0, parent, field, needed]
-        }
+        Ok(Packed { length, copies }) => Answer {
+            length: length as u64,
+            copies: copies.into(),
+            ..Answer::default()
+        },
+        Err(Refusal::NoFit(over)) => Answer {
+            number: 11,
+            parent: over.parent.into(),
+            field: over.field.into(),
+            needed: over.needed,
+            ..Answer::default()
+        },
+        Err(refusal) => Answer::bare(refusal.number()),
     }
 }
 
-/// Packs with both, and gives the number.
-fn agree(stores: &Stores, id: u32, length: usize, seen: &mut Seen) -> u64 {
+/// What a pack needs that allows so many copies, if the stores have a frame.
+fn need(stores: &Stores, copies: u32) -> usize {
+    let framed = View::framed(&stores.bytes, &stores.records);
+    framed.map_or(0, |View { layout, .. }| {
+        let (pieces, links) = (layout.pieces as u64, layout.links as u64);
+        limits::work_need(pieces, links, copies.min(1_024).into()) as usize
+    })
+}
+
+/// Packs with both, and gives what both tell, and the output.
+pub fn agree(stores: &Stores, id: u32, copies: u32, length: usize) -> (Answer, Vec<u8>) {
     let Stores { bytes, records } = stores;
     let mut output = vec![STALE_BYTE; length];
     let mut output_of_plain = output.clone();
-    // Whatever limits the records tell, sound stores need no more.
-    let mut work = vec![0; 6 * records.len()];
-    let answer = reference::pack(bytes, records, id, &mut output, &mut work);
-    let told = told_by_plain(plain::pack(bytes, records, id, &mut output_of_plain));
-    assert_eq!(
-        told,
-        [
-            answer.number,
-            answer.length,
-            answer.parent,
-            answer.field,
-            answer.needed
-        ]
-    );
+    let mut work = vec![0; need(stores, copies)];
+    let answer = reference::pack(bytes, records, id, copies, &mut output, &mut work);
+    let packed = plain::pack(bytes, records, id, copies, &mut output_of_plain);
+    let without_tally = Answer {
+        bytes: 0,
+        links: 0,
+        objects: 0,
+        depth: 0,
+        ..answer
+    };
+    assert_eq!(told_by_plain(packed), without_tally);
     assert!(output == output_of_plain);
+    (answer, output)
+}
+
+/// Packs with both, now and then with copies, and gives the number if none were
+/// made.
+fn agree_in_turn(stores: &Stores, id: u32, length: usize, seen: &mut Seen) -> Option<u64> {
+    seen.packs += 1;
+    let copies = [0, 0, 2, 0, 40, 0, 1_025][seen.packs % 7];
+    // Copies of all links of the largest graphs take much memory.
+    let copies = if stores.records.len() > 100_000 {
+        copies.min(2)
+    } else {
+        copies
+    };
+    let answer = agree(stores, id, copies, length).0;
     seen.told[answer.number as usize] += 1;
-    answer.number
+    (answer.copies == 0).then_some(answer.number)
 }
 
 /// Packs a graph's last piece, another one, one that is not there, and the last
@@ -69,7 +98,7 @@ fn packs(graph: &Graph, stores: &Stores, numbers: &mut Numbers, seen: &mut Seen)
         (count, most),
         (count - 1, numbers.below(most)),
     ] {
-        if agree(stores, id, length, seen) == 0 {
+        if agree_in_turn(stores, id, length, seen) == Some(0) {
             seen.by_order[first_fit(stores, id)] += 1;
         }
     }
@@ -93,10 +122,10 @@ fn roomy(graph: &Graph, numbers: &mut Numbers) -> Stores {
 }
 
 fn print(what: &str, seen: &Seen) {
-    let Seen { told, by_order } = seen;
+    let Seen { told, by_order, .. } = seen;
     println!(
-        "{what}: told 0: {}, 4: {}, 9: {}, 10: {}, 11: {}, 12: {}; by the three orders {by_order:?}",
-        told[0], told[4], told[9], told[10], told[11], told[12]
+        "{what}: told 0: {}, 4: {}, 9: {}, 10: {}, 11: {}, 12: {}, 13: {}; by the three orders {by_order:?}",
+        told[0], told[4], told[9], told[10], told[11], told[12], told[13]
     );
 }
 
@@ -197,12 +226,8 @@ fn plain_refuses_damaged_stores() {
                 3 => empty_one(&mut stores, graph.len(), numbers),
                 _ => tamper::damage(&mut stores, numbers),
             }
-            agree(
-                &stores,
-                graph.len() as u32 - 1,
-                whole.bytes.len(),
-                &mut seen,
-            );
+            let root = graph.len() as u32 - 1;
+            agree_in_turn(&stores, root, whole.bytes.len(), &mut seen);
         }
     });
     print("damaged", &seen);

@@ -176,8 +176,9 @@ fn large_call(output: usize, numbers: &mut Numbers) -> Call {
         6 => Call::Tally,
         _ => Call::Pack {
             id: numbers.below(PIECES) as u32,
+            copies: 0,
             output,
-            work: limits::work_need(PIECES as u64, LINKS as u64) as usize,
+            work: limits::work_need(PIECES as u64, LINKS as u64, 0) as usize,
         },
     }
 }
