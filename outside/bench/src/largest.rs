@@ -53,6 +53,10 @@ fn line(what: &str, kind: Kind, links: usize) -> Line {
     assert_eq!(plain_fits(&memory, root), what.starts_with("plain"));
     Line {
         what: format!("pack, {what} of 16,384"),
-        times: timed(&memory, root, bindings::work_need(room.pieces, room.links)),
+        times: timed(
+            &memory,
+            root,
+            bindings::work_need(room.pieces, room.links, 0),
+        ),
     }
 }

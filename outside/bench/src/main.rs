@@ -5,6 +5,7 @@
 //! `cargo run --offline --profile bench --package bench`
 
 mod closing;
+mod copying;
 mod largest;
 mod looking;
 mod ordering;
@@ -23,7 +24,7 @@ pub struct Line {
 }
 
 fn main() {
-    if spaces::asked() || ordering::asked() {
+    if spaces::asked() || ordering::asked() || copying::asked() {
         return;
     }
     println!(
@@ -55,6 +56,7 @@ fn main() {
     );
     looking::lines().iter().for_each(print_looking);
     ordering::print();
+    copying::print();
 }
 
 /// Speeds in gigabytes a second, of what is looked at and of what is summed.

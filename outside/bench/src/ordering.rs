@@ -160,7 +160,7 @@ impl Case {
         let case = Case {
             stores: made::stores(&graph, room, &mut numbers),
             root: count as u32 - 1,
-            work: vec![0; bindings::work_need(room.pieces, room.links)],
+            work: vec![0; bindings::work_need(room.pieces, room.links, 0)],
             table: vec![0; room.store],
             plain_table: vec![0; room.store],
         };
@@ -181,14 +181,15 @@ impl Case {
 
     fn pack(&mut self) {
         let Stores { bytes, records } = &self.stores;
-        let answer = calls::pack(bytes, records, self.root, &mut self.table, &mut self.work);
+        let (table, work) = (&mut self.table, &mut self.work);
+        let answer = calls::pack(bytes, records, self.root, 0, table, work);
         assert_eq!(answer.number, 0);
     }
 
     fn pack_plainly(&mut self) {
         let Stores { bytes, records } = &self.stores;
-        let length = plain::pack(bytes, records, self.root, &mut self.plain_table);
-        assert!(length.is_ok());
+        let packed = plain::pack(bytes, records, self.root, 0, &mut self.plain_table);
+        assert!(packed.is_ok());
     }
 }
 

@@ -42,7 +42,7 @@ fn line(name: &str, shape: Shape, count: u32, large: bool) -> Line {
     let root = shape(&mut memory, count - 2, leaf.as_slice());
     assert_eq!(plain_fits(&memory, root), !large);
     let order = if large { "distance" } else { "plain" };
-    let work = bindings::work_need(limits.pieces, limits.links);
+    let work = bindings::work_need(limits.pieces, limits.links, 0);
     Line {
         what: format!("pack, {order} order, {name} of {count}"),
         times: timed(&memory, root, work),
@@ -55,8 +55,13 @@ pub fn timed(memory: &Memory, root: u32, work: usize) -> Times {
     both(
         12,
         || (vec![0; store.len()], vec![0; work]),
-        |(out, work)| assert_eq!(calls::pack(store, records, root, out, work).number, 0),
-        |(out, work)| assert_eq!(reference::pack(store, records, root, out, work).number, 0),
+        |(out, work)| assert_eq!(calls::pack(store, records, root, 0, out, work).number, 0),
+        |(out, work)| {
+            assert_eq!(
+                reference::pack(store, records, root, 0, out, work).number,
+                0
+            )
+        },
     )
 }
 

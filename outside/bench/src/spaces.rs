@@ -18,7 +18,7 @@ use std::{env, fs, process};
 const ASKED: &str = "spaces";
 
 /// The function of the library that tries an order.
-const ORDER: &str = "pack_lay::lay_order";
+const ORDER: &str = "order::try_order";
 
 const COUNTS: [usize; 2] = [4_000, 16_000];
 
@@ -170,14 +170,14 @@ impl Refused {
                 records: stores.records,
             },
             root: room.pieces - 1,
-            work: bindings::work_need(room.pieces, room.links),
+            work: bindings::work_need(room.pieces, room.links, 0),
         }
     }
 
     fn pack(&self) {
         let Memory { store, records } = &self.memory;
         let (mut out, mut work) = (vec![0; store.len()], vec![0; self.work]);
-        let told = calls::pack(store, records, self.root, &mut out, &mut work);
+        let told = calls::pack(store, records, self.root, 0, &mut out, &mut work);
         let unfit = (told.number, told.parent, told.field);
         assert_eq!(unfit, (11, self.root.into(), 0));
     }
