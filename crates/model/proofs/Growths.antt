@@ -93,14 +93,14 @@ module _ {g : Graph} {root : ℕ} where
     abbrev y : ℕ
     y = w .next
 
-    copyable : Copyable (w .graph) p (u .field) y
+    pub copyable : Copyable (w .graph) p (u .field) y
     copyable = record { has = k .has; apart = λ e. omega (arith, v .ids p (k .placed)); fresh = λ q. go q (zeroOr (count y (kids (w .graph) q))) }
       where
         go : (q : ℕ) → Zero (count y (kids (w .graph) q)) → count y (kids (w .graph) q) ≡ 0
         go q (none e _) = e
         go q (some e _) = absurd (omega (arith, v .low q y e))
 
-    new-out : count y (w .line) ≡ 0
+    pub new-out : count y (w .line) ≡ 0
     new-out = go (zeroOr (count y (w .line)))
       where
         go : Zero (count y (w .line)) → count y (w .line) ≡ 0
