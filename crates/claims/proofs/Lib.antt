@@ -5,6 +5,7 @@ pub mod Hopeless
 pub mod Packs
 pub mod Orders
 pub mod Demand
+pub mod Same
 pub mod Theorems
 pub mod Refused
 pub mod Cases

@@ -51,7 +51,7 @@ module _ (b w : List ℕ) (id copies : ℕ) (out work : List ℕ) where
   abbrev settled : Verdict → Outcome → PackOut
   settled v u = packBy v (record { grown = c .grown; outcome = u }) copies b w out work
 
-  step-is : packStep id copies b w out work ≡ settled (verdict (testsOn (c .outcome))) (c .outcome)
+  pub step-is : packStep id copies b w out work ≡ settled (verdict (testsOn (c .outcome))) (c .outcome)
   unfolding packStep
   step-is = refl
 
@@ -87,12 +87,12 @@ module _ (b w : List ℕ) (id copies : ℕ) (out work : List ℕ) where
   )
 
   -- where they passed, only the orders and the output are left
-  left-tests : (u : Outcome) → Admitted b w id copies out work → verdict (testsOn u) ≡ verdict (lastTests u)
+  pub left-tests : (u : Outcome) → Admitted b w id copies out work → verdict (testsOn u) ≡ verdict (lastTests u)
   unfolding verdict
   left-tests u t = rw (t .isSound, le-ltb _ copies (t .few), le-ltb (length work) _ (t .memory), eq-eqb (openDepth w) 0 (t .noneOpen), lt-leb _ id (t .known))
 
   -- and only the output where an order fits
-  placed-accepted : (o : List ℕ) → Admitted b w id copies out work → lengthOf c ≤ length out → verdict (testsOn (placed o)) ≡ accepted
+  pub placed-accepted : (o : List ℕ) → Admitted b w id copies out work → lengthOf c ≤ length out → verdict (testsOn (placed o)) ≡ accepted
   unfolding verdict
   placed-accepted o t k = left-tests (placed o) t ∙ rw (le-ltb (length out) _ k)
 

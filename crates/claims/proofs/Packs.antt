@@ -52,7 +52,7 @@ module _ (b w : List ℕ) (h : sound b w ≡ true) (id copies : ℕ) where
   abbrev c : Arrangement
   c = arrangedIn a id copies
 
-  base : Base g (content a) (readingAt (readings (a .closed))) (length (a .closed))
+  pub base : Base g (content a) (readingAt (readings (a .closed))) (length (a .closed))
   base = let formed = sound-formed b w h in objects-base (a .closed) (unfold Ranked in λ p c k. formed p .low c k) (unfold Fields in λ i. formed i .inside)
 
   -- the layout theorem for the order that is placed

@@ -1,8 +1,8 @@
--- docs/RULES.md, section 8, sentence by sentence: what the claim about a whole list of calls says of the calls in it. `xs` are the calls made so
--- far, and `m` is the one that comes next; `storesAfter` and `historyAfter` are what the stores and the history are by then.
+-- docs/RULES.md, section 8, sentence by sentence: what the claim about a whole list of calls says of the calls in it, and of two lists. `xs` are
+-- the calls made so far, and `m` is the one that comes next; `storesAfter` and `historyAfter` are what the stores and the history are by then.
 use mathlib.Core.Path.{_≡_, refl, ap}
 use Prim.Native.Nat.{ℕ, _+_, _<_}
-use mathlib.Core.List.{List, [], _∷_, _++_}
+use mathlib.Core.List.{List, [], _∷_, _++_, append-nil}
 use mathlib.Core.Bool.{true}
 use native.Mathlib.Omega.{arith}
 use borrow.Author.Tests.{ltb-true, eqb-false, leb-false, lt-ltb, ne-eqb, lt-leb, not-false}
@@ -17,9 +17,11 @@ use Rattle.model.specs.Judge.{Verdict, accepted, refused, numberOf, Test, Tells
 use Rattle.model.specs.Told.{Told, doneClose}
 use Rattle.model.specs.History.{History, innermostReading, sum, counts, judged, expected, tell, AllDifferent, Alike}
 use Rattle.model.proofs.Refusals.{told-exactly}
-use Rattle.steps.specs.Runs.{StoreCall, put, link, tally, Stores, stepOn, onStores, pack, asCall}
+use Rattle.steps.specs.Runs.{StoreCall, put, link, tally, Stores, stepOn, onStores, pack, asCall, lentStep}
 use Rattle.steps.proofs.Held.{some-open}
 use Rattle.claims.specs.Demand.{needs, Made, storesAfter, Table, Closes, NoStarts, afterOne, historyAfter, Agree, Claim, KeepsId, AllClaim}
+use Rattle.claims.specs.Same.{SameBytes}
+use Rattle.claims.proofs.Same.{agree-same}
 
 tell-number : (v : Verdict) (t : Tally) (i : ℕ) (u : Tally) → tell v t (doneClose i u) .number ≡ numberOf v
 tell-number accepted t i u = refl
@@ -35,6 +37,9 @@ agree-first : (bytes words : ℕ) (ys : List Made) (s : Stores) (h : History) �
 unfolding AllClaim
 agree-first bytes words [] s h k = k
 agree-first bytes words (y ∷ ys) s h k = k .0
+
+agree-last : (bytes words : ℕ) (xs : List Made) (s : Stores) (h : History) → AllClaim bytes words xs s h → Agree bytes words (storesAfter xs s) (historyAfter bytes words xs h)
+agree-last bytes words xs s h k = agree-first bytes words [] (storesAfter xs s) (historyAfter bytes words xs h) (all-after bytes words xs [] s h (rw append-nil k))
 
 -- ---- after any calls of the list
 
@@ -129,3 +134,13 @@ unfolding AllClaim
 same-id bytes words s h xs m ms k ys all c n d =
     let h₁ = historyAfter bytes words xs h in
     kept-id bytes words (innermostReading (h₁ .opens)) (m .left .told .id) ms k ys (afterOne bytes words (m .call) h₁) (all-after bytes words xs (m ∷ (ms ++ (k ∷ ys))) s h all .3 c) n d
+
+-- ---- same root, same bytes
+
+-- after two lists of calls, packs of roots that read the same, with as many copies allowed, leave the same table, or overflow at the same field by the same offset
+module _ (bytes words : ℕ) (s : Stores) (h : History) (xs : List Made) (all : AllClaim bytes words xs s h)
+    (bytes′ words′ : ℕ) (s′ : Stores) (h′ : History) (xs′ : List Made) (all′ : AllClaim bytes′ words′ xs′ s′ h′) where
+  pub same-bytes : (id id′ copies : ℕ) (out out′ work work′ : List ℕ)
+      → SameBytes (historyAfter bytes words xs h) (historyAfter bytes′ words′ xs′ h′) id id′ copies work work′
+      (lentStep (pack id copies out work) (storesAfter xs s)) (lentStep (pack id′ copies out′ work′) (storesAfter xs′ s′))
+  same-bytes = agree-same (agree-last bytes words xs s h all) (agree-last bytes′ words′ xs′ s′ h′ all′)

@@ -1,4 +1,5 @@
 pub mod Calls
 pub mod Orders
 pub mod Demand
+pub mod Same
 pub mod Cases
