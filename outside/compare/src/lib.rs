@@ -5,6 +5,8 @@
 //! * [`met`] counts inner starts.
 //! * [`shapes`], [`groups`], [`sharing`], [`largest`] and [`decided`] make graphs, [`made`] stores that
 //!   hold one, [`tamper`] damaged stores.
+//! * [`writing`] has many lists of calls that write one graph, [`written`] the sessions that they
+//!   leave.
 
 pub mod checked;
 pub mod claims;
@@ -21,6 +23,8 @@ pub mod seed;
 pub mod shapes;
 pub mod sharing;
 pub mod tamper;
+pub mod writing;
+pub mod written;
 
 pub use checked::Checked;
 pub use pair::Pair;
