@@ -6,8 +6,9 @@
 //! * [`shapes`], [`groups`], [`sharing`], [`largest`] and [`decided`] make graphs, [`made`] stores that
 //!   hold one, [`tamper`] damaged stores.
 //! * [`writing`] has many lists of calls that write one graph, [`written`] the sessions that they
-//!   leave.
+//!   leave, [`by_id`] orders that differ between these.
 
+pub mod by_id;
 pub mod checked;
 pub mod claims;
 pub mod decided;
