@@ -13,6 +13,7 @@ mod largest;
 mod made;
 mod needs;
 mod plain;
+mod same_root;
 mod spaces;
 mod tampered;
 mod weights;
