@@ -159,7 +159,7 @@ module _ (k : ℕ) (g : Graph) (n root : ℕ) where
   abbrev first : Grown
   first = ungrown g n root
 
-  -- the order in which every link fits: the first of the three, the last with as few copies as it takes
+  -- the order in which every link fits: the first of the three, the last with its copies, each made for the link reported then
   pub data Chosen : Grown → List ℕ → Type 0 where
     kahn : unfit g (kahnOrder g root) ≡ [] → Chosen first (kahnOrder g root)
     distance : (unfit g (kahnOrder g root) ≡ [] → ⊥) → unfit g (distanceOrder g root) ≡ [] → Chosen first (distanceOrder g root)
