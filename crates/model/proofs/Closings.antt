@@ -24,7 +24,7 @@ pub record Known (r : Reading) (i : ℕ) (l : List Reading) : Type 0 where
   pub within : i < length l
 
 module _ {r : Reading} {i : ℕ} {l : List Reading} (k : Known r i l) where
-  known-equal : r ≡ readingAt l i
+  pub known-equal : r ≡ readingAt l i
   known-equal =
       reading-equal r (readingAt l (firstThat (sameReading r) l)) (first-passes (sameReading r) l (bytes []) (omega (arith, k .first, k .within)))
       ∙ ap (readingAt l) (k .first)

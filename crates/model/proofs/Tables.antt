@@ -1,5 +1,5 @@
 -- The layout theorem: of any order of the objects below a root, each once, parents first, in which every offset fits, the table shows the
--- root's reading from its first byte, every field leads to the place of its child, every child lies behind its parent, and the length is
+-- root's reading from its first byte, every field leads to the place of its child, none is 0, every child lies behind its parent, and the length is
 -- the sum of the sizes.
 use mathlib.Core.Path.{_≡_, refl, sym, ap, _∙_}
 use Prim.Native.Nat.{ℕ, _+_, _-_, _≤_, _<_}
@@ -16,7 +16,7 @@ use Rattle.model.specs.Bag.{count}
 use Rattle.model.specs.Object.{Link}
 use Rattle.model.specs.Graph.{Graph, Closed, ParentsFirst, Rooted}
 use Rattle.model.specs.Distance.{In, here, there}
-use Rattle.model.specs.Reading.{Reading, bytes, field, bytesOf, readLinks, Reads, Outside, Own, target, FieldsShow, Shows}
+use Rattle.model.specs.Reading.{Reading, bytes, field, bytesOf, readLinks, Reads, Outside, Own, target, FieldsShow, Shows, Wide, Apart}
 use Rattle.model.specs.Table.{placeOf, offset, unfitLinks, unfitFrom, unfit, objectBytes, tableFrom, tableOf, Fields, Sized}
 use Rattle.model.specs.Laid.{LaidOut}
 use Rattle.model.proofs.Bags.{Same, same, other, sameOr, total-bag}
@@ -182,6 +182,32 @@ module _ (g : Graph) (content : ℕ → List ℕ) (o : List ℕ) (ρ : ℕ → R
         fields-show r i h ls (λ m j. k m (there j)) er,
       )
 
+  -- a field is not 0: its child lies behind the field's end
+  fields-apart : (r : Reading) (i : ℕ) → 0 < count i o → (ls : List Link) → ((l : Link) → In l ls → In l (g .links i))
+      → r ≡ readLinks ρ ls (content i) → Wide r → Apart (tableOf g content o) (placeOf g o i) r
+  unfolding Apart Wide readLinks Fields Reads Closed offset
+  fields-apart (bytes b) i h ls k q y = tt
+  fields-apart (field s c r) i h [] k q y = absurd (let z : _≡_ {A = ℕ} 0 1 = cc in omega arith)
+  fields-apart (field s c r) i h (l ∷ ls) k q y =
+      let x = l .child in
+      let es : s ≡ l .slot = cc in
+      let ec : c ≡ ρ x = cc in
+      let er : r ≡ readLinks ρ ls (content i) = cc in
+      let kl = k l (here refl) in
+      let kx = in-kids l (g .links i) kl in
+      let hx : 0 < count x o = closed i x h kx in
+      let tg : target (tableOf g content o) (placeOf g o i) s ≡ placeOf g o x = rw es (leads i h l kl) in
+      let w : 0 < l .slot .width = rw es at (y .0) in
+      let room = field-room 0 (g .size i) l (g .links i) (fs i) kl in (
+        rw es (λ z. omega (arith, field-holds i h l kl, before-behind (g .size) g o first i x h kx, room .inside, room .start)),
+        rw tg (fields-apart c x hx (g .links x) (λ m j. j) (ec ∙ reads x) (y .1)),
+        fields-apart r i h ls (λ m j. k m (there j)) er (y .2),
+      )
+
+  pub apart : (i : ℕ) → 0 < count i o → Wide (ρ i) → Apart (tableOf g content o) (placeOf g o i) (ρ i)
+  unfolding Reads
+  apart i h y = fields-apart (ρ i) i h (g .links i) (λ m j. j) (reads i) y
+
   pub shows : (i : ℕ) → 0 < count i o → Shows (tableOf g content o) (placeOf g o i) (ρ i)
   unfolding Reads
   shows i h = (own i h, fields-show (ρ i) i h (g .links i) (λ m j. j) (reads i))
@@ -192,6 +218,7 @@ pub layout : (g : Graph) (content : ℕ → List ℕ) (nodes : List ℕ) (root :
     → ((c : ℕ) → count c o ≡ count c nodes) → ParentsFirst g o → unfit g o ≡ [] → LaidOut g nodes root ρ o (tableOf g content o)
 layout g content nodes root ρ o r sized fs reads bag first fit = record {
   shown = rw (before-root (g .size) g nodes root o r bag first) at (all root (r .root-in));
+  apart = λ y. rw (before-root (g .size) g nodes root o r bag first) at (apart g content o ρ sized fs closed first fit reads root (omega (arith, bag root, r .root-in)) y);
   each = all;
   sum = unfold tableOf in (table-length g content (placeOf g o) sized fs o ∙ total-bag (g .size) o nodes bag);
   behind = λ p c h k. before-behind (g .size) g o first p c (omega (arith, bag p)) k;

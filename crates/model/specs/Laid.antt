@@ -9,12 +9,14 @@ use Rattle.model.specs.Object.{Link}
 use Rattle.model.specs.Graph.{Graph, kids}
 use Rattle.model.specs.Distance.{In}
 use Rattle.model.specs.Table.{placeOf}
-use Rattle.model.specs.Reading.{Reading, target, Shows}
+use Rattle.model.specs.Reading.{Reading, target, Shows, Wide, Apart}
 
 -- t is the table of the nodes in order o; ρ gives their readings
 pub record LaidOut (g : Graph) (nodes : List ℕ) (root : ℕ) (ρ : ℕ → Reading) (o t : List ℕ) : Type 0 where
   -- the root is shown from the first byte
   pub shown : Shows t 0 (ρ root)
+  -- and no field of it, or below it, holds 0
+  pub apart : Wide (ρ root) → Apart t 0 (ρ root)
   -- each is shown at its place
   pub each : (i : ℕ) → 0 < count i nodes → Shows t (placeOf g o i) (ρ i)
   -- the length is the sum of the sizes

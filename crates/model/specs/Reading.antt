@@ -93,6 +93,16 @@ FieldsShow t p (field s c r) = (p + s .at + s .width ≤ length t) × Own t (tar
 abbrev pub Shows : List ℕ → ℕ → Reading → Type 0
 Shows t p r = Own t p r × FieldsShow t p r
 
+-- every field of an object, and below it, has a width
+unfoldable pub Wide : Reading → Type 0
+Wide (bytes b) = Unit {0}
+Wide (field s c r) = (0 < s .width) × Wide c × Wide r
+
+-- no field of the object at p, or below it, holds 0
+unfoldable pub Apart : List ℕ → ℕ → Reading → Type 0
+Apart t p (bytes b) = Unit {0}
+Apart t p (field s c r) = (readBig (part (p + s .at) (p + s .at + s .width) t) ≡ 0 → ⊥) × Apart t (target t p s) c × Apart t p r
+
 -- ---- the different readings among one and all those below it
 
 unfoldable pub below : Reading → List Reading
