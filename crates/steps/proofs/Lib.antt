@@ -13,5 +13,6 @@ pub mod Steps
 pub mod Runs
 pub mod Held
 pub mod Works
+pub mod Surplus
 pub mod Packs
 pub mod Formed

@@ -47,7 +47,7 @@ settle-refused out c e = rw (verdict-is c, e)
 -- ---- stores that are not sound
 
 -- only a start asks nothing of what the stores hold
-abbrev asks : StoreCall → Bool
+abbrev pub asks : StoreCall → Bool
 asks (start objects links) = false
 asks open' = true
 asks (put vs) = true
