@@ -1,0 +1,375 @@
+-- A table that shows the reading of one that was read without refusal 15, every offset in it not zero, is read by the same ops.
+use mathlib.Core.Path.{_≡_, refl, sym, ap, _∙_}
+use Prim.Native.Nat.{ℕ, zero, suc, _+_, _-_, _≤_, _<_}
+use mathlib.Core.List.{List, [], _∷_, _++_}
+use mathlib.Core.Bool.{Bool, true, false}
+use mathlib.Core.Logic.{inl, inr}
+use native.Mathlib.Omega.{arith}
+use borrow.Author.Tests.{le-leb, eq-eqb, ne-eqb}
+use lib.ListN.{length, getD, replicate, length-append, length-replicate, List·getD-append}
+use lib.Seq.{ext-getD, getD-append-add}
+use lib.Dec.{eqb, leb}
+use Rattle.lists.specs.Lists.{pick, part}
+use Rattle.lists.proofs.Parts.{getD-part}
+use Rattle.lists.proofs.Runs.{length-part}
+use Rattle.big_endian.specs.BigEndian.{readFrom as readBytes}
+use Rattle.model.specs.Object.{newSlot}
+use Rattle.model.specs.Reading.{Reading, bytesOf, readingSize, Outside, Own, target, FieldsShow, Apart, Wide}
+use Rattle.gsub.specs.declared.Kind.{Kind}
+use Rattle.gsub.specs.declared.Rule.{Rule}
+use Rattle.gsub.specs.declared.Rule.the-variants.{Any, Only, To, ToOrNull}
+use Rattle.gsub.specs.declared.Field.{Field}
+use Rattle.gsub.specs.Tables.{fieldsAt, wordAt}
+use Rattle.gsub.specs.Ops.{Act, keep, follow, refuse, valueAt, byRule, act, Op, begin, put, link, end, stop, actOps, fieldsOps, tableOps}
+use Rattle.gsub.specs.Meaning.{actBytes, ownBytes, actReading, fieldsReading, tableReading}
+use Rattle.gsub.proofs.Accepted.{act-room}
+use Rattle.gsub.proofs.Settled.{Plain, Agree, settled}
+
+-- ---- ops without refusal 15
+
+unfoldable pub Clean : List Op → Type 0
+Clean [] = Unit {0}
+Clean (begin ∷ ops) = Clean ops
+Clean (put vs ∷ ops) = Clean ops
+Clean (link w ∷ ops) = Clean ops
+Clean (end ∷ ops) = Clean ops
+Clean (stop p ∷ ops) = ⊥
+
+pub clean-left : (a b : List Op) → Clean (a ++ b) → Clean a
+unfolding Clean
+clean-left [] b h = tt
+clean-left (begin ∷ a) b h = clean-left a b h
+clean-left (put vs ∷ a) b h = clean-left a b h
+clean-left (link w ∷ a) b h = clean-left a b h
+clean-left (end ∷ a) b h = clean-left a b h
+clean-left (stop p ∷ a) b h = h
+
+pub clean-right : (a b : List Op) → Clean (a ++ b) → Clean b
+unfolding Clean
+clean-right [] b h = h
+clean-right (begin ∷ a) b h = clean-right a b h
+clean-right (put vs ∷ a) b h = clean-right a b h
+clean-right (link w ∷ a) b h = clean-right a b h
+clean-right (end ∷ a) b h = clean-right a b h
+clean-right (stop p ∷ a) b h = absurd h
+
+-- ---- what a packed table shows
+
+pub record Shown (t : List ℕ) (q : ℕ) (r : Reading) : Type 0 where
+  pub own : Own t q r
+  pub fields : FieldsShow t q r
+  pub apart : Apart t q r
+
+-- ---- one field read again
+
+-- an offset that was followed is followed again if it is not zero
+follow-again : (r : Rule) (v u : ℕ) (k : Kind) → byRule r v ≡ follow k → (u ≡ 0 → ⊥) → byRule r u ≡ follow k
+unfolding byRule
+follow-again Any v u k e n = absurd (let z : _≡_ {A = ℕ} 0 1 = cc in omega arith)
+follow-again (Only x) v u k e n = absurd (go (eqb v x) e)
+  where
+    go : (t : Bool) → pick t keep refuse ≡ follow k → ⊥
+    go true e = let z : _≡_ {A = ℕ} 0 1 = cc in omega arith
+    go false e = let z : _≡_ {A = ℕ} 0 1 = cc in omega arith
+follow-again (To j) v u k e n = rw (ne-eqb u 0 n) (go (eqb v 0) e)
+  where
+    go : (t : Bool) → pick t refuse (follow j) ≡ follow k → follow j ≡ follow k
+    go true e = cc
+    go false e = e
+follow-again (ToOrNull j) v u k e n = rw (ne-eqb u 0 n) (go (eqb v 0) e)
+  where
+    go : (t : Bool) → pick t keep (follow j) ≡ follow k → follow j ≡ follow k
+    go true e = cc
+    go false e = e
+
+act-rule : (b : List ℕ) (at : ℕ) (f : Field) → at + f .width ≤ length b → act b at f ≡ byRule (f .rule) (valueAt b at (f .width))
+unfolding act
+act-rule b at f h = rw (le-leb (at + f .width) (length b) h)
+
+-- what two tables have of a field that is judged y in one of them
+module _ (opsB opsT : Kind → ℕ → List Op) (b t : List ℕ) (p q : ℕ) where
+  unfoldable Same : ℕ → ℕ → Act → Type 0
+  Same a w keep = (part (q + a) (q + a + w) t ≡ part (p + a) (p + a + w) b) × (q + a + w ≤ length t)
+  Same a w (follow k) = (valueAt t (q + a) w ≡ 0 → ⊥) × (q + a + w ≤ length t) × (opsT k (q + valueAt t (q + a) w) ≡ opsB k (p + valueAt b (p + a) w))
+  Same a w refuse = ⊥
+
+  unfoldable Copied : ℕ → List Field → Type 0
+  Copied a [] = Unit {0}
+  Copied a (f ∷ fs) = Same a (f .width) (act b (p + a) f) × Copied (a + f .width) fs
+
+  same-act : (a : ℕ) (f : Field) (y : Act) → act b (p + a) f ≡ y → Same a (f .width) y → act t (q + a) f ≡ y
+  unfolding Same
+  same-act a f keep e s =
+      let room = act-room b (p + a) f (λ r. let z : _≡_ {A = ℕ} 0 1 = cc in omega arith) in
+      act-rule t (q + a) f (s .1) ∙ rw (s .0) (sym (act-rule b (p + a) f room) ∙ e)
+  same-act a f (follow k) e s =
+      let room = act-room b (p + a) f (λ r. let z : _≡_ {A = ℕ} 0 1 = cc in omega arith) in
+      act-rule t (q + a) f (s .1) ∙ follow-again (f .rule) (valueAt b (p + a) (f .width)) _ k (sym (act-rule b (p + a) f room) ∙ e) (s .0)
+  same-act a f refuse e s = absurd s
+
+  same-ops : (a w : ℕ) (y : Act) → Same a w y → actOps opsT t q a w y ≡ actOps opsB b p a w y
+  unfolding Same actOps
+  same-ops a w keep s = rw (s .0)
+  same-ops a w (follow k) s = rw (s .2)
+  same-ops a w refuse s = absurd s
+
+  copied-ops : (fs : List Field) (a : ℕ) → Copied a fs → fieldsOps opsT t q a fs ≡ fieldsOps opsB b p a fs
+  unfolding Copied fieldsOps
+  copied-ops [] a c = refl
+  copied-ops (f ∷ fs) a c =
+      rw (same-act a f (act b (p + a) f) refl (c .0), same-ops a (f .width) (act b (p + a) f) (c .0), copied-ops fs (a + f .width) (c .1))
+
+-- ---- a reading's fields and bytes
+
+module _ (rd : Kind → ℕ → Reading) (b : List ℕ) (p : ℕ) (whole : List ℕ) where
+  abbrev readFrom : ℕ → List Field → Reading
+  readFrom a fs = fieldsReading rd b p a fs whole
+
+  bytes-by : (a w : ℕ) (y : Act) (r : Reading) → bytesOf r ≡ whole → bytesOf (actReading rd b p a w y r) ≡ whole
+  unfolding actReading bytesOf
+  bytes-by a w keep r e = e
+  bytes-by a w (follow k) r e = e
+  bytes-by a w refuse r e = e
+
+  pub bytes-of : (fs : List Field) (a : ℕ) → bytesOf (readFrom a fs) ≡ whole
+  unfolding fieldsReading bytesOf
+  bytes-of [] a = refl
+  bytes-of (f ∷ fs) a = bytes-by a (f .width) (act b (p + a) f) (readFrom (a + f .width) fs) (bytes-of fs (a + f .width))
+
+  -- every field lies from a on
+  outside-by : (a w j : ℕ) (y : Act) (r : Reading) → j < a → Outside j r → Outside j (actReading rd b p a w y r)
+  unfolding actReading Outside
+  outside-by a w j keep r h o = o
+  outside-by a w j (follow k) r h o = (inl h, o)
+  outside-by a w j refuse r h o = o
+
+  outside-before : (fs : List Field) (a j : ℕ) → j < a → Outside j (readFrom a fs)
+  unfolding fieldsReading Outside
+  outside-before [] a j h = tt
+  outside-before (f ∷ fs) a j h = outside-by a (f .width) j (act b (p + a) f) (readFrom (a + f .width) fs) h (outside-before fs (a + f .width) j (omega arith))
+
+-- children read again
+record Children (opsB opsT : Kind → ℕ → List Op) (rd : Kind → ℕ → Reading) (t : List ℕ) : Type 0 where
+  again : (k : Kind) (x y : ℕ) → Clean (opsB k x) → Shown t y (rd k x) → opsT k y ≡ opsB k x
+
+-- ---- fields from a on of the table at p of b, which the table at q of t shows: r are the fields left, own their bytes
+
+module _ (opsB opsT : Kind → ℕ → List Op) (rd : Kind → ℕ → Reading) (b t : List ℕ) (p q : ℕ) (whole : List ℕ) (R : Reading) (holds : bytesOf R ≡ whole) (shown : Own t q R) where
+  record Stage (a : ℕ) (r : Reading) (own : List ℕ) : Type 0 where
+    outside : (j : ℕ) → a ≤ j → Outside j r → Outside j R
+    byte : (i : ℕ) → getD whole (a + i) 0 ≡ getD own i 0
+    long : a + length own ≡ length whole
+    fields : FieldsShow t q r
+    apart : Apart t q r
+
+  -- one field more in front, of width w, judged y
+  module _ (a w : ℕ) (r : Reading) (own : List ℕ) where
+    abbrev Before : Act → Type 0
+    Before y = Stage a (actReading rd b p a w y r) (actBytes b (p + a) w y ++ own)
+
+    next-byte : (vs : List ℕ) → length vs ≡ w → ((i : ℕ) → getD whole (a + i) 0 ≡ getD (vs ++ own) i 0) → (i : ℕ) → getD whole (a + w + i) 0 ≡ getD own i 0
+    next-byte vs e h i =
+        let n : a + w + i ≡ a + (length vs + i) = omega arith in
+        rw n (h (length vs + i) ∙ getD-append-add vs own i 0)
+
+    keep-next : p + a + w ≤ length b → Before keep → Stage (a + w) r own
+    unfolding actReading actBytes
+    keep-next room s =
+        let vs = part (p + a) (p + a + w) b in
+        let l : length vs ≡ w = omega (arith, length-part (p + a) (p + a + w) b room) in
+        record {
+          outside = λ j h o. s .outside j (omega arith) o;
+          byte = next-byte vs l (s .byte);
+          long = omega (arith, s .long, length-append vs own);
+          fields = s .fields;
+          apart = s .apart;
+        }
+
+    keep-same : p + a + w ≤ length b → ((j : ℕ) → j < a + w → Outside j r) → Before keep → Same opsB opsT b t p q a w keep
+    unfolding actReading actBytes Same
+    keep-same room before s =
+        let vs = part (p + a) (p + a + w) b in
+        let l : length vs ≡ w = omega (arith, length-part (p + a) (p + a + w) b room) in
+        let m : a + w ≤ length whole = omega (arith, s .long, length-append vs own) in
+        let n : q + a + w ≤ length t = omega (arith, shown .room, ap length holds) in
+        let k : length (part (q + a) (q + a + w) t) ≡ w = omega (arith, length-part (q + a) (q + a + w) t n) in (
+          ext-getD 0 (part (q + a) (q + a + w) t) vs (omega arith) (λ i h.
+              let g : a + i < readingSize R = omega (arith, ap length holds) in
+              let x : q + a + i ≡ q + (a + i) = omega arith in
+              getD-part (q + a) (q + a + w) i t (omega arith)
+              ∙ ap (λ z. getD t z 0) x
+              ∙ shown .agree (a + i) g (s .outside (a + i) (omega arith) (before (a + i) (omega arith)))
+              ∙ ap (λ z. getD z (a + i) 0) holds
+              ∙ s .byte i
+              ∙ List·getD-append vs own 0 i (omega arith)),
+          n,
+        )
+
+    follow-next : (k : Kind) → Before (follow k) → Stage (a + w) r own
+    unfolding actReading actBytes Outside FieldsShow Apart
+    follow-next k s = record {
+      outside = λ j h o. s .outside j (omega arith) (inr h, o);
+      byte = next-byte (replicate w 0) (length-replicate w 0) (s .byte);
+      long = omega (arith, s .long, length-append (replicate w 0) own, length-replicate {A = ℕ} w 0);
+      fields = s .fields .3;
+      apart = s .apart .2;
+    }
+
+    follow-same : Children opsB opsT rd t → (k : Kind) → Clean (opsB k (p + valueAt b (p + a) w)) → Before (follow k) → Same opsB opsT b t p q a w (follow k)
+    unfolding actReading FieldsShow Apart Same
+    follow-same below k c s =
+        let f = s .fields in
+        let z = s .apart in
+        let leads : q + valueAt t (q + a) w ≡ target t q (newSlot a w 0) = omega arith in
+        (z .0, f .0, ap (opsT k) leads ∙ below .again k _ _ c (record { own = f .1; fields = f .2; apart = z .1 }))
+
+  -- what one field gives, and what is left for the others
+  record Further (a w : ℕ) (r : Reading) (own : List ℕ) (rest : List Op) (y : Act) : Type 0 where
+    same : Same opsB opsT b t p q a w y
+    stage : Stage (a + w) r own
+    clean : Clean rest
+
+  further : Children opsB opsT rd t → (a : ℕ) (f : Field) (r : Reading) (own : List ℕ) (rest : List Op) → ((j : ℕ) → j < a + f .width → Outside j r) → (y : Act) → act b (p + a) f ≡ y
+      → Clean (actOps opsB b p a (f .width) y ++ rest) → Before a (f .width) r own y → Further a (f .width) r own rest y
+  unfolding actOps Clean
+  further below a f r own rest o keep e c s =
+      let room = act-room b (p + a) f (λ x. let z : _≡_ {A = ℕ} 0 1 = cc in omega arith) in
+      record { same = keep-same a (f .width) r own room o s; stage = keep-next a (f .width) r own room s; clean = c }
+  further below a f r own rest o (follow k) e c s =
+      let child = opsB k (p + valueAt b (p + a) (f .width)) in
+      let both = clean-left (child ++ (link (f .width) ∷ [])) rest c in
+      record {
+        same = follow-same a (f .width) r own below k (clean-left child (link (f .width) ∷ []) both) s;
+        stage = follow-next a (f .width) r own k s;
+        clean = clean-right (child ++ (link (f .width) ∷ [])) rest c;
+      }
+  further below a f r own rest o refuse e c s = absurd c
+
+  copied : Children opsB opsT rd t → (fs : List Field) (a : ℕ) → Clean (fieldsOps opsB b p a fs) → Stage a (fieldsReading rd b p a fs whole) (ownBytes b p a fs) → Copied opsB opsT b t p q a fs
+  unfolding Copied fieldsOps fieldsReading ownBytes
+  copied below [] a c s = tt
+  copied below (f ∷ fs) a c s =
+      let z = further below a f (fieldsReading rd b p (a + f .width) fs whole) (ownBytes b p (a + f .width) fs) (fieldsOps opsB b p (a + f .width) fs)
+      (outside-before rd b p whole fs (a + f .width)) (act b (p + a) f) refl c s in
+      (z .same, copied below fs (a + f .width) (z .clean) (z .stage))
+
+-- ---- the same fields
+
+module _ (opsB opsT : Kind → ℕ → List Op) (b t : List ℕ) (p q : ℕ) where
+  same-word : (a : ℕ) → part (q + a) (q + a + 2) t ≡ part (p + a) (p + a + 2) b → wordAt b (p + a) ≡ wordAt t (q + a)
+  same-word a e =
+      let none : (c : ℕ) → c + 0 ≡ c = λ c. omega arith in
+      let high : (c : ℕ) (l : List ℕ) → getD (part c (c + 2) l) 0 0 ≡ getD l c 0 = λ c l. getD-part c (c + 2) 0 l (omega arith) ∙ ap (λ z. getD l z 0) (none c) in
+      let low : (c : ℕ) (l : List ℕ) → getD (part c (c + 2) l) 1 0 ≡ getD l (c + 1) 0 = λ c l. getD-part c (c + 2) 1 l (omega arith) in
+      let x : getD b (p + a) 0 ≡ getD t (q + a) 0 = sym (high (p + a) b) ∙ ap (λ l. getD l 0 0) (sym e) ∙ high (q + a) t in
+      let y : getD b (p + a + 1) 0 ≡ getD t (q + a + 1) 0 = sym (low (p + a) b) ∙ ap (λ l. getD l 1 0) (sym e) ∙ low (q + a) t in
+      rw (x, y)
+
+  kept-word : (a w : ℕ) (y : Act) → ((k : Kind) → y ≡ follow k → ⊥) → Same opsB opsT b t p q a w y → w ≡ 2 → wordAt b (p + a) ≡ wordAt t (q + a)
+  unfolding Same
+  kept-word a w keep n s e = same-word a (rw e at (s .0))
+  kept-word a w (follow k) n s e = absurd (n k refl)
+  kept-word a w refuse n s e = absurd s
+
+  -- plain fields are not followed
+  no-follow : (t : Bool) (k : Kind) → pick t keep refuse ≡ follow k → ⊥
+  no-follow true k e = let z : _≡_ {A = ℕ} 0 1 = cc in omega arith
+  no-follow false k e = let z : _≡_ {A = ℕ} 0 1 = cc in omega arith
+
+  only-follow : (t u : Bool) (k : Kind) → pick t (pick u keep refuse) refuse ≡ follow k → ⊥
+  only-follow true u k e = no-follow u k e
+  only-follow false u k e = let z : _≡_ {A = ℕ} 0 1 = cc in omega arith
+
+  agree-field : (a w : ℕ) (r : Rule) → Same opsB opsT b t p q a w (act b (p + a) (record { width = w; rule = r })) → Plain r (w ≡ 2 → wordAt b (p + a) ≡ wordAt t (q + a))
+  unfolding Plain act byRule
+  agree-field a w Any s = kept-word a w _ (no-follow (leb (p + a + w) (length b))) s
+  agree-field a w (Only x) s = kept-word a w _ (only-follow (leb (p + a + w) (length b)) (eqb (valueAt b (p + a) w) x)) s
+  agree-field a w (To k) s = tt
+  agree-field a w (ToOrNull k) s = tt
+
+  copied-agree : (fs : List Field) (a : ℕ) → Copied opsB opsT b t p q a fs → Agree (λ i. wordAt b (p + i)) (λ i. wordAt t (q + i)) a fs
+  unfolding Copied Agree
+  copied-agree [] a c = tt
+  copied-agree (f ∷ fs) a c = (agree-field a (f .width) (f .rule) (c .0), copied-agree fs (a + f .width) (c .1))
+
+-- ---- a whole table
+
+module _ (b t : List ℕ) where
+  fields-again : (opsB opsT : Kind → ℕ → List Op) (rd : Kind → ℕ → Reading) → Children opsB opsT rd t → (p q : ℕ) (fs : List Field) → Clean (fieldsOps opsB b p 0 fs)
+      → Shown t q (fieldsReading rd b p 0 fs (ownBytes b p 0 fs)) → Copied opsB opsT b t p q 0 fs
+  fields-again opsB opsT rd below p q fs c s =
+      let whole = ownBytes b p 0 fs in
+      let from : (i : ℕ) → 0 + i ≡ i = λ i. omega arith in
+      copied opsB opsT rd b t p q whole (fieldsReading rd b p 0 fs whole) (bytes-of rd b p whole fs 0) (s .own) below fs 0 c (record {
+        outside = λ j h o. o;
+        byte = λ i. ap (λ z. getD whole z 0) (from i);
+        long = omega arith;
+        fields = s .fields;
+        apart = s .apart;
+      })
+
+  table-again : (opsB opsT : Kind → ℕ → List Op) (rd : Kind → ℕ → Reading) → Children opsB opsT rd t → (k : Kind) (p q : ℕ) → Clean (fieldsOps opsB b p 0 (fieldsAt b k p))
+      → Shown t q (fieldsReading rd b p 0 (fieldsAt b k p) (ownBytes b p 0 (fieldsAt b k p)))
+      → fieldsOps opsT t q 0 (fieldsAt t k q) ≡ fieldsOps opsB b p 0 (fieldsAt b k p)
+  table-again opsB opsT rd below k p q c s =
+      let fs = fieldsAt b k p in
+      let same = fields-again opsB opsT rd below p q fs c s in
+      let fields : fs ≡ fieldsAt t k q = settled _ _ k (copied-agree opsB opsT b t p q fs 0 same) in
+      rw (← fields) (copied-ops opsB opsT b t p q fs 0 same)
+
+  children-again : (d : ℕ) → Children (tableOps d b) (tableOps d t) (tableReading d b) t
+  unfolding tableOps tableReading Clean
+  children-again zero = record { again = λ k p q c s. absurd c }
+  children-again (suc d) = record {
+    again = λ k p q c s.
+        ap (λ ops. begin ∷ (ops ++ (end ∷ [])))
+        (table-again (tableOps d b) (tableOps d t) (tableReading d b) (children-again d) k p q (clean-left (fieldsOps (tableOps d b) b p 0 (fieldsAt b k p)) (end ∷ []) c) s);
+  }
+
+  pub ops-again : (d : ℕ) (k : Kind) (p q : ℕ) → Clean (tableOps d b k p) → Shown t q (tableReading d b k p) → tableOps d t k q ≡ tableOps d b k p
+  ops-again d = children-again d .again
+
+-- ---- the offsets of a table that was read have a width, since they are not zero
+
+follow-some : (r : Rule) (v : ℕ) (k : Kind) → byRule r v ≡ follow k → v ≡ 0 → ⊥
+unfolding byRule
+follow-some Any v k e z = let q : _≡_ {A = ℕ} 0 1 = cc in omega arith
+follow-some (Only x) v k e z = go (eqb v x) e
+  where
+    go : (t : Bool) → pick t keep refuse ≡ follow k → ⊥
+    go true e = let q : _≡_ {A = ℕ} 0 1 = cc in omega arith
+    go false e = let q : _≡_ {A = ℕ} 0 1 = cc in omega arith
+follow-some (To j) v k e z = let q : _≡_ {A = ℕ} 0 1 = (let f : refuse ≡ follow k = rw (eq-eqb v 0 z) at e in cc) in omega arith
+follow-some (ToOrNull j) v k e z = let q : _≡_ {A = ℕ} 0 1 = (let f : keep ≡ follow k = rw (eq-eqb v 0 z) at e in cc) in omega arith
+
+no-value : (b : List ℕ) (at w : ℕ) → w ≡ 0 → valueAt b at w ≡ 0
+unfolding readBytes
+no-value b at w z = let e : at + w - at ≡ 0 = omega arith in rw e
+
+follow-wide : (b : List ℕ) (at : ℕ) (f : Field) (k : Kind) → act b at f ≡ follow k → 0 < f .width
+follow-wide b at f k e = go (f .width) refl
+  where
+    room : at + f .width ≤ length b
+    room = act-room b at f (λ r. let z : _≡_ {A = ℕ} 0 1 = cc in omega arith)
+
+    go : (w : ℕ) → f .width ≡ w → 0 < f .width
+    go zero z = absurd (follow-some (f .rule) (valueAt b at (f .width)) k (sym (act-rule b at f room) ∙ e) (no-value b at (f .width) z))
+    go (suc w) z = omega arith
+
+module _ (b : List ℕ) where
+  wide-by : (rd : Kind → ℕ → Reading) (p a : ℕ) (f : Field) (r : Reading) → ((k : Kind) (q : ℕ) → Wide (rd k q)) → Wide r → (y : Act) → act b (p + a) f ≡ y
+      → Wide (actReading rd b p a (f .width) y r)
+  unfolding actReading Wide
+  wide-by rd p a f r below h keep e = h
+  wide-by rd p a f r below h (follow k) e = (follow-wide b (p + a) f k e, below k _, h)
+  wide-by rd p a f r below h refuse e = h
+
+  wide-fields : (rd : Kind → ℕ → Reading) → ((k : Kind) (q : ℕ) → Wide (rd k q)) → (p : ℕ) (whole : List ℕ) (fs : List Field) (a : ℕ) → Wide (fieldsReading rd b p a fs whole)
+  unfolding fieldsReading Wide
+  wide-fields rd below p whole [] a = tt
+  wide-fields rd below p whole (f ∷ fs) a = wide-by rd p a f (fieldsReading rd b p (a + f .width) fs whole) below (wide-fields rd below p whole fs (a + f .width)) (act b (p + a) f) refl
+
+  pub wide-table : (d : ℕ) (k : Kind) (p : ℕ) → Wide (tableReading d b k p)
+  unfolding tableReading Wide
+  wide-table zero k p = tt
+  wide-table (suc d) k p = wide-fields (tableReading d b) (wide-table d) p (ownBytes b p 0 (fieldsAt b k p)) (fieldsAt b k p) 0

@@ -1,0 +1,14 @@
+pub mod Cases
+pub mod Grows
+pub mod Accepted
+pub mod Lifts
+pub mod Settled
+pub mod Again
+pub mod Round
+pub mod Places
+pub mod Substitutes
+pub mod Fields
+pub mod Depth
+pub mod Refusals
+pub mod Earliest
+pub mod Told

@@ -1,0 +1,6 @@
+pub mod Tables
+pub mod Ops
+pub mod Meaning
+pub mod Substitute
+pub mod Refusals
+pub mod Cases

@@ -1,0 +1,102 @@
+-- docs/RULES.md, 11.3 to 11.5: reading a table as the calls that it makes: fields are read, judged and put one by one, and each offset is followed as soon as it is read.
+use Prim.Native.Nat.{ℕ, zero, suc, _+_}
+use mathlib.Core.List.{List, [], _∷_, _++_}
+use lib.ListN.{length}
+use lib.Dec.{eqb, leb}
+use Rattle.lists.specs.Lists.{pick, part}
+use Rattle.big_endian.specs.BigEndian.{readBig}
+use Rattle.gsub.specs.declared.Kind.{Kind}
+use Rattle.gsub.specs.declared.Rule.{Rule}
+use Rattle.gsub.specs.declared.Rule.the-variants.{Any, Only, To, ToOrNull}
+use Rattle.gsub.specs.declared.Field.{Field}
+pub use Rattle.gsub.specs.declared.Act.{Act}
+pub use Rattle.gsub.specs.declared.Act.the-variants.{Keep as keep, Follow as follow, Refuse as refuse}
+use Rattle.gsub.specs.Tables.{fieldsAt}
+use Rattle.model.specs.Session.{Needs, sessionCall}
+use Rattle.model.specs.History.{History, expected, after}
+use Rattle.steps.specs.Runs.{StoreCall, Stores, stepOn, asCall}
+use Rattle.steps.specs.Runs as calls
+
+-- ---- one field
+
+unfoldable pub byRule : Rule → ℕ → Act
+byRule Any v = keep
+byRule (Only x) v = pick (eqb v x) keep refuse
+byRule (To k) v = pick (eqb v 0) refuse (follow k)
+byRule (ToOrNull k) v = pick (eqb v 0) keep (follow k)
+
+-- the number in a field of width w at a place of the slice
+abbrev pub valueAt : List ℕ → ℕ → ℕ → ℕ
+valueAt b at w = readBig (part at (at + w) b)
+
+-- a read past the slice's end is refused before the number is judged
+unfoldable pub act : List ℕ → ℕ → Field → Act
+act b at f = pick (leb (at + f .width) (length b)) (byRule (f .rule) (valueAt b at (f .width))) refuse
+
+-- ---- what reading does: session calls, a link being to the object closed just before it; or refusal 15, with the field's place
+
+abbrev pub badTable : ℕ
+badTable = 15
+
+pub data Op : Type 0 where
+  begin : Op
+  put : List ℕ → Op
+  link : ℕ → Op
+  end : Op
+  stop : ℕ → Op
+
+-- the field of width w at a of the table at p; `child` are a child's ops
+unfoldable pub actOps : (Kind → ℕ → List Op) → List ℕ → ℕ → ℕ → ℕ → Act → List Op
+actOps child b p a w keep = put (part (p + a) (p + a + w) b) ∷ []
+actOps child b p a w (follow k) = child k (p + valueAt b (p + a) w) ++ (link w ∷ [])
+actOps child b p a w refuse = stop (p + a) ∷ []
+
+unfoldable pub fieldsOps : (Kind → ℕ → List Op) → List ℕ → ℕ → ℕ → List Field → List Op
+fieldsOps child b p a [] = []
+fieldsOps child b p a (f ∷ fs) = actOps child b p a (f .width) (act b (p + a) f) ++ fieldsOps child b p (a + f .width) fs
+
+-- the table of kind k at p, at most n tables deep
+unfoldable pub tableOps : ℕ → List ℕ → Kind → ℕ → List Op
+tableOps zero b k p = stop p ∷ []
+tableOps (suc n) b k p = begin ∷ (fieldsOps (tableOps n b) b p 0 (fieldsAt b k p) ++ (end ∷ []))
+
+-- ---- the ops made, one call after the other, up to the first refusal
+
+-- what a call told, and what it left
+pub record Step (S : Type 0) : Type 0 where
+  pub number : ℕ
+  pub id : ℕ
+  pub next : S
+
+-- the number told, the root's id, refusal 15's place, and what is left
+pub record Outcome (S : Type 0) : Type 0 where
+  pub number : ℕ
+  pub id : ℕ
+  pub place : ℕ
+  pub next : S
+
+abbrev pub outcome : {S : Type 0} → ℕ → ℕ → ℕ → S → Outcome S
+outcome n i p s = record { number = n; id = i; place = p; next = s }
+
+-- a refused call ends it
+abbrev pub goOn : {S : Type 0} → Step S → Outcome S → Outcome S
+goOn t later = pick (eqb (t .number) 0) later (outcome (t .number) 0 0 (t .next))
+
+-- `i` is the id that the last close told
+unfoldable pub perform : {S : Type 0} → (StoreCall → S → Step S) → List Op → ℕ → S → Outcome S
+perform call [] i s = outcome 0 i 0 s
+perform call (begin ∷ ops) i s = let t = call calls.open' s in goOn t (perform call ops i (t .next))
+perform call (put vs ∷ ops) i s = let t = call (calls.put vs) s in goOn t (perform call ops i (t .next))
+perform call (link w ∷ ops) i s = let t = call (calls.link w i 0) s in goOn t (perform call ops i (t .next))
+perform call (end ∷ ops) i s = let t = call calls.close s in goOn t (perform call ops (t .id) (t .next))
+perform call (stop p ∷ ops) i s = outcome badTable 0 p s
+
+-- ---- the calls on the two stores; on the history, in stores of these lengths
+
+abbrev pub onStores : StoreCall → Stores → Step Stores
+onStores c s = let l = stepOn c s in record { number = l .told .number; id = l .told .id; next = l .stores }
+
+abbrev pub onHistory : Needs → ℕ → ℕ → StoreCall → History → Step History
+onHistory n bytes words c h =
+    let t = expected n (asCall bytes words c) h in
+    record { number = t .number; id = t .id; next = after n (sessionCall (asCall bytes words c)) h }
