@@ -1,0 +1,54 @@
+-- Each way through the judging of a field.
+use mathlib.Core.Path.{_≡_, refl, sym, ap, _∙_}
+use Prim.Native.Nat.{ℕ, _+_, _≤_, _<_}
+use mathlib.Core.List.{List}
+use borrow.Author.Tests.{eq-eqb, ne-eqb, le-leb, lt-leb}
+use lib.ListN.{length}
+use Rattle.gsub.specs.declared.Kind.{Kind}
+use Rattle.gsub.specs.declared.Rule.{Rule}
+use Rattle.gsub.specs.declared.Rule.the-variants.{Any, Only, To, ToOrNull}
+use Rattle.gsub.specs.declared.Field.{Field}
+use Rattle.gsub.specs.declared.Act.{Act}
+use Rattle.gsub.specs.declared.Act.the-variants.{Keep as keep, Follow as follow, Refuse as refuse}
+use Rattle.gsub.specs.Ops.{valueAt, byRule, act}
+
+module _ {rule : Rule} (v : ℕ) where
+  along : (r : Rule) {a : Act} → rule ≡ r → byRule r v ≡ a → a ≡ byRule rule v
+  along r e f = sym (ap (λ x. byRule x v) e ∙ f)
+
+  pub by-any : rule ≡ Any → keep ≡ byRule rule v
+  unfolding byRule
+  by-any e = along Any e refl
+
+  pub by-only : (x : ℕ) → rule ≡ Only x → v ≡ x → keep ≡ byRule rule v
+  unfolding byRule
+  by-only x e f = along (Only x) e (rw (eq-eqb v x f))
+
+  pub by-other : (x : ℕ) → rule ≡ Only x → (v ≡ x → ⊥) → refuse ≡ byRule rule v
+  unfolding byRule
+  by-other x e f = along (Only x) e (rw (ne-eqb v x f))
+
+  pub by-null : (k : Kind) → rule ≡ To k → v ≡ 0 → refuse ≡ byRule rule v
+  unfolding byRule
+  by-null k e f = along (To k) e (rw (eq-eqb v 0 f))
+
+  pub by-offset : (k : Kind) → rule ≡ To k → (v ≡ 0 → ⊥) → follow k ≡ byRule rule v
+  unfolding byRule
+  by-offset k e f = along (To k) e (rw (ne-eqb v 0 f))
+
+  pub by-absent : (k : Kind) → rule ≡ ToOrNull k → v ≡ 0 → keep ≡ byRule rule v
+  unfolding byRule
+  by-absent k e f = along (ToOrNull k) e (rw (eq-eqb v 0 f))
+
+  pub by-present : (k : Kind) → rule ≡ ToOrNull k → (v ≡ 0 → ⊥) → follow k ≡ byRule rule v
+  unfolding byRule
+  by-present k e f = along (ToOrNull k) e (rw (ne-eqb v 0 f))
+
+module _ (b : List ℕ) (at : ℕ) (f : Field) where
+  pub past-act : length b < at + f .width → refuse ≡ act b at f
+  unfolding act
+  past-act h = rw (lt-leb (at + f .width) (length b) h)
+
+  pub ruled-act : at + f .width ≤ length b → (v : ℕ) {a : Act} → v ≡ valueAt b at (f .width) → a ≡ byRule (f .rule) v → a ≡ act b at f
+  unfolding act
+  ruled-act h v e g = rw (le-leb (at + f .width) (length b) h) (g ∙ ap (byRule (f .rule)) e)

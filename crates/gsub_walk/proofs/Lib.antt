@@ -1,0 +1,9 @@
+pub mod Numbers
+pub mod Times
+pub mod Runs
+pub mod Laid
+pub mod Looks
+pub mod Judging
+pub mod Values
+pub mod Stacks
+pub mod Moving

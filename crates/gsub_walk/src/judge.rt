@@ -1,0 +1,34 @@
+// One field read and judged.
+use gsub::Act;
+use gsub::Field;
+use gsub::Rule;
+ghost use mathlib.Core.Path.{_≡_};
+ghost use Rattle.gsub.specs.Ops.{byRule as actOf, act};
+ghost use Rattle.gsub_walk.specs.Fields.{Narrow};
+
+fn by_rule(rule: Rule, v: usize) -> Act
+    ensures { λ r. ⌜ r ≡ actOf rule v ⌝ }
+{
+    match rule {
+        Rule::Any => Act::Keep,
+        Rule::Only(x) => if v == x { Act::Keep } else { Act::Refuse },
+        Rule::To(k) => if v == 0 { Act::Refuse } else { Act::Follow(k) },
+        Rule::ToOrNull(k) => if v == 0 { Act::Keep } else { Act::Follow(k) },
+    }
+}
+
+// The field at `at`: refused where it passes the slice's end, else by its number.
+pub fn judge(table: &[u8], at: usize, f: Field) -> Act
+    requires { ⌜ Narrow f ⌝ }
+    ensures { λ r. ⌜ r ≡ act (now (table .entry)) at f ⌝ }
+{
+    let width = f.width;
+    let rule = f.rule;
+    if table.len() < at {
+        return Act::Refuse;
+    }
+    if table.len() - at < width {
+        return Act::Refuse;
+    }
+    by_rule(rule, big_endian::read(table, at, width) as usize)
+}
