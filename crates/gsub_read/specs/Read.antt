@@ -1,0 +1,127 @@
+-- docs/RULES.md, 11.1 and 11.6 to 11.8: a read as a function of its arguments and the two stores: a start, the table's ops, and a start anew where one of them is refused.
+-- By the history alone: what it must tell, and the session calls that it stands for.
+use Prim.Native.Nat.{ℕ}
+use mathlib.Core.List.{List, [], _∷_}
+use mathlib.Core.Bool.{Bool, _||_}
+use lib.Dec.{eqb}
+use Rattle.lists.specs.Lists.{pick}
+use Rattle.answer.specs.Number.{number, noTally}
+use Rattle.answer.specs.declared.tally.Tally.{Tally}
+use Rattle.answer.specs.declared.Refusal.the-variants as Refusal
+use Rattle.answer.specs.declared.Answer.{Answer}
+use Rattle.answer.specs.declared.Answer.the-variants as Answer
+use Rattle.model.specs.Judge.{Limits, numberOf, judgeStart}
+use Rattle.model.specs.Session.{Needs}
+use Rattle.model.specs.History.{History, counts, begun}
+use Rattle.steps.specs.Steps.{tallyIn}
+use Rattle.steps.specs.Runs.{StoreCall, Stores, stores, start, stepOn}
+use Rattle.steps.specs.Runs as calls
+use Rattle.gsub.specs.declared.Kind.the-variants.{Header}
+use Rattle.gsub.specs.Ops.{badTable, Op, begin, put, link, end, stop, Step, Outcome, tableOps, perform, onStores, onHistory}
+use Rattle.gsub.specs.Meaning.{deepest}
+use Rattle.gsub.specs.Refusals.{tellable}
+use Rattle.gsub_read.specs.declared.perform.Performed.{Performed}
+use Rattle.gsub_read.specs.declared.perform.Performed.the-variants as Performed
+use Rattle.gsub_read.specs.declared.answers.ReadAnswer.{ReadAnswer}
+use Rattle.gsub_read.specs.declared.answers.ReadAnswer.the-variants.{Done, BadTable, Refused}
+
+-- the number, the root's id, refusal 15's place and the tally
+pub record ReadTold : Type 0 where
+  pub number : ℕ
+  pub id : ℕ
+  pub place : ℕ
+  pub tally : Tally
+
+-- a refusal comes with zeros for the tally
+abbrev pub refusedRead : ℕ → ℕ → ReadTold
+refusedRead n p = record { number = n; id = 0; place = p; tally = noTally }
+
+abbrev pub doneRead : ℕ → Tally → ReadTold
+doneRead i t = record { number = 0; id = i; place = 0; tally = t }
+
+abbrev pub toldByRead : ReadAnswer → ReadTold
+toldByRead (Done i t) = doneRead (i .0) t
+toldByRead (BadTable p) = refusedRead badTable p
+toldByRead (Refused why) = refusedRead (number why) 0
+
+-- what ops come to, given how what they leave is counted
+abbrev pub toldOf : {S : Type 0} → (S → Tally) → Outcome S → ReadTold
+toldOf count o = pick (eqb (o .number) 0) (doneRead (o .id) (count (o .next))) (refusedRead (o .number) (o .place))
+
+abbrev pub gsubOps : List ℕ → List Op
+gsubOps b = tableOps deepest b Header 0
+
+-- ---- on the two stores
+
+-- what a read tells, and what it leaves in the stores
+pub record ReadLeft : Type 0 where
+  pub told : ReadTold
+  pub stores : Stores
+
+abbrev pub readLeft : ReadTold → List ℕ → List ℕ → ReadLeft
+readLeft t b w = record { told = t; stores = stores b w }
+
+-- what the ops came to: a refusal starts the session anew
+abbrev pub settled : ℕ → ℕ → Outcome Stores → ReadLeft
+settled objects links o =
+    record {
+      told = toldOf (λ s. tallyIn (s .bytes) (s .words)) o;
+      stores = pick (eqb (o .number) 0) (o .next) (stepOn (start objects links) (o .next) .stores);
+    }
+
+-- from what a start told and left
+abbrev pub begunStep : List ℕ → ℕ → ℕ → ℕ → Stores → ReadLeft
+begunStep b objects links n s =
+    pick (eqb n 0) (settled objects links (perform onStores (gsubOps b) 0 s)) (record { told = refusedRead n 0; stores = s })
+
+unfoldable pub readStep : List ℕ → ℕ → ℕ → Stores → ReadLeft
+readStep b objects links s = let l = stepOn (start objects links) s in begunStep b objects links (l .told .number) (l .stores)
+
+-- ---- a refusal handed on
+
+abbrev pub handedOf : Performed → ReadAnswer
+handedOf (Performed.On i) = Done i noTally
+handedOf (Performed.Bad p) = BadTable p
+handedOf (Performed.Refused why) = Refused why
+
+abbrev pub startedOf : Answer → ReadAnswer
+startedOf (Answer.Done t) = Done (record { 0 = 0 }) t
+startedOf (Answer.Refused why t) = Refused why
+
+-- ---- by the arguments and the two stores' lengths alone
+
+-- the calls that ops make, each with the id that the last close told
+unfoldable pub callsIn : {S : Type 0} → (StoreCall → S → Step S) → List Op → ℕ → S → List StoreCall
+callsIn call [] i s = []
+callsIn call (begin ∷ ops) i s = calls.open' ∷ callsIn call ops i (call calls.open' s .next)
+callsIn call (put vs ∷ ops) i s = calls.put vs ∷ callsIn call ops i (call (calls.put vs) s .next)
+callsIn call (link w ∷ ops) i s = calls.link w i 0 ∷ callsIn call ops i (call (calls.link w i 0) s .next)
+callsIn call (end ∷ ops) i s = let t = call calls.close s in calls.close ∷ callsIn call ops (t .id) (t .next)
+callsIn call (stop p ∷ ops) i s = []
+
+module _ (n : Needs) (bytes words : ℕ) (b : List ℕ) (objects links : ℕ) where
+  abbrev readLimits : Limits
+  readLimits = record { objects = objects; links = links; bytes = bytes }
+
+  -- what the ops come to on the history that a start begins
+  abbrev pub historyRead : Outcome History
+  historyRead = perform (onHistory n bytes words) (gsubOps b) 0 (begun readLimits)
+
+  -- what a read must tell
+  unfoldable pub readExpected : ReadTold
+  readExpected =
+      let k = numberOf (judgeStart readLimits (n .records readLimits) words) in
+      pick (eqb k 0) (toldOf counts historyRead) (refusedRead k 0)
+
+  -- the calls that it stands for: its start and what its ops make, or where it is refused its start alone
+  unfoldable pub readCalls : List StoreCall
+  readCalls = start objects links ∷ pick (eqb (readExpected .number) 0) (callsIn (onHistory n bytes words) (gsubOps b) 0 (begun readLimits)) []
+
+-- the numbers that a read can tell: its start's, and those of its ops
+abbrev pub readTells : ℕ → Bool
+readTells k = eqb k (number Refusal.OutOfRange) || tellable k
+
+-- each call gets the stores as the one before left them
+unfoldable pub leftAfter : List StoreCall → Stores → Stores
+leftAfter [] s = s
+leftAfter (c ∷ cs) s = leftAfter cs (stepOn c s .stores)

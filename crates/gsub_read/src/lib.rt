@@ -1,0 +1,43 @@
+// A GSUB 1.0 table read into a session, one object for each of its tables.
+//
+// It ends and answers on any memory and any table, and asks nothing of its caller. The other functions do its work on stores that are known to
+// be sound.
+mod answers;
+mod perform;
+mod run;
+
+use answer::Answer;
+pub use answers::BAD_TABLE;
+pub use answers::ReadAnswer;
+use answers::handed_on;
+use answers::not_started;
+use perform::Performed;
+use run::read_begun;
+use session::start;
+use session::tally_sound;
+ghost use mathlib.Core.Path.{_≡_};
+ghost use Rattle.steps.specs.Runs.{stores};
+ghost use Rattle.gsub_read.specs.Read.{toldByRead, readLeft, readStep};
+
+// The session is started with these limits, and the table read into it. 13 as start tells it; 15 with the place of the first field that no GSUB 1.0
+// table has there; 6, 7, 8 and 16 as the session tells them. After any refusal but 13 the session is as freshly started.
+pub fn read_gsub(
+    store: &mut [u8],
+    records: &mut [u32],
+    objects: u32,
+    links: u32,
+    table: &[u8],
+) -> ReadAnswer
+    ensures { λ r. ⌜ readLeft (toldByRead r) (now (store .exit)) (now (records .exit)) ≡ readStep (now (table .entry)) objects links (stores (now (store .entry)) (now (records .entry))) ⌝ }
+{
+    let a = start(store, records, objects, links);
+    let Answer::Done(_) = a else {
+        return not_started(a);
+    };
+    let p = read_begun(store, records, table);
+    let Performed::On(id) = p else {
+        start(store, records, objects, links);
+        return handed_on(p);
+    };
+    ReadAnswer::Done(id, tally_sound(store, records))
+}
