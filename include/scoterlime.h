@@ -5,7 +5,7 @@
  *
  * The caller's duties, in every call:
  * - a pointer is good for its length: n bytes at store, r words of 32 bits at records, k bytes at bytes, o bytes at out, w words of 64 bits
- *   at work, each readable, and writable where it is not const, and aligned for its type. A pointer with a length of 0 may not be null
+ *   at work, t bytes at table, each readable, and writable where it is not const, and aligned for its type. A pointer with a length of 0 may not be null
  *   either: give any aligned address;
  * - the areas lent to one call do not overlap;
  * - no other thread reads or writes them during the call (areas that a call only reads may be read by others).
@@ -13,8 +13,8 @@
  * What the areas hold is no duty: on any contents and in any order, every call ends and answers. A session goes on as long as each call gets both
  * stores as the call before left them, with the same n and an r no shorter than the need. Stores that hold no sound session are told 12.
  *
- * A refused call changes nothing, with one exception: pack's 10 and 11 clear the needed part of the work memory. Where several reasons apply, the first
- * in the call's list of refusals is told.
+ * A refused call changes nothing, with two exceptions: pack's 10 and 11 clear the needed part of the work memory, and a refused read leaves a session that
+ * is freshly started. Where several reasons apply, the first in the call's list of refusals is told.
  */
 #ifndef SCOTERLIME_H
 #define SCOTERLIME_H
@@ -104,6 +104,28 @@ scoterlime_answer scoterlime_tally(const uint8_t *store, size_t n, const uint32_
  * Refused: 12, 13 (copies is over 1,024, or w is short of the need for so many), 9, 4, 11, 10. */
 scoterlime_answer scoterlime_pack(const uint8_t *store, size_t n, const uint32_t *records, size_t r, uint32_t id, uint32_t copies,
                                   uint8_t *out, size_t o, uint64_t *work, size_t w);
+
+/* What a read tells. number is 0, or the reason for which it was refused: 6, 7, 8, 13 or 16 as above, or
+ *
+ *   15  a field of the table passes its end, or is a version, a format, a lookup type or an offset that is not read
+ *
+ * Beside 0 stand the counts and the id. Each other value is 0 but the place beside 15. */
+typedef struct {
+    uint64_t number;
+    uint64_t bytes;
+    uint64_t links;
+    uint64_t objects;
+    uint64_t depth;
+    uint64_t id;    /* the root's: the object of the table's header */
+    uint64_t place; /* 15: where in the table the field stands */
+} scoterlime_read_answer;
+
+/* Begins a session, whatever the stores held, and writes the GSUB table of t bytes into it, one object for each of its tables, equal ones once: version 1.0,
+ * single substitution alone, feature parameters and lookup orders none. The root can be packed, and other objects can be written beside it.
+ * A table that offsets lead to several times is read each time: the time is not bounded by t alone (docs/RULES.md, 11.12).
+ * Refused: 13 as start, which changes nothing; then the first of 15, 6, 7, 8 and 16 that is met, which leaves the session as freshly started. */
+scoterlime_read_answer scoterlime_read_gsub(uint8_t *store, size_t n, uint32_t *records, size_t r, uint32_t piece_limit, uint32_t link_limit,
+                                            const uint8_t *table, size_t t);
 
 #ifdef __cplusplus
 }

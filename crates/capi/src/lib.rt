@@ -1,10 +1,11 @@
-// The eight calls and the two needs for callers in C, as include/scoterlime.h declares them.
+// The eight calls, the read of a GSUB table and the two needs for callers in C, as include/scoterlime.h declares them.
 //
-// Each is one proved call and its answer turned into eleven numbers. None asks anything of the lent memory's contents; that a pointer is good for
+// Each is one proved call and its answer turned into numbers. None asks anything of the lent memory's contents; that a pointer is good for
 // its length, and that lent areas do not overlap, is the caller's part.
 mod calls;
 mod needs;
 mod packing;
+mod reading;
 
 pub use calls::scoterlime_close;
 pub use calls::scoterlime_drop;
@@ -16,3 +17,4 @@ pub use calls::scoterlime_tally;
 pub use needs::scoterlime_records_need;
 pub use needs::scoterlime_work_need;
 pub use packing::scoterlime_pack;
+pub use reading::scoterlime_read_gsub;

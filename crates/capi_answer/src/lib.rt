@@ -1,4 +1,6 @@
-// An answer as eleven numbers. Values that a call does not have are 0.
+// An answer as eleven numbers, a read's as seven. Values that a call does not have are 0.
+mod reads;
+
 use answer::Answer;
 use answer::Closing;
 use answer::Overflow;
@@ -8,6 +10,8 @@ use answer::Tally;
 use answer::named_by;
 use answer::nowhere;
 use answer::number_of;
+pub use reads::ReadNumbers;
+pub use reads::tell_read;
 ghost use mathlib.Core.Path.{_≡_};
 ghost use Rattle.model.specs.Told.{refusedTold, toldBy, toldByClose, toldByPack};
 ghost use Rattle.capi_answer.specs.Numbers.{toldIn};

@@ -1,0 +1,20 @@
+// The ninth call: a GSUB table read into a session.
+use capi_answer::ReadNumbers;
+use capi_answer::tell_read;
+ghost use mathlib.Core.Path.{_≡_};
+ghost use Rattle.steps.specs.Runs.{stores};
+ghost use Rattle.gsub_read.specs.Read.{readLeft, readStep};
+ghost use Rattle.capi_answer.specs.Numbers.{toldInRead};
+
+#[no_mangle]
+pub extern "C" fn scoterlime_read_gsub(
+    store: &mut [u8],
+    records: &mut [u32],
+    objects: u32,
+    links: u32,
+    table: &[u8],
+) -> ReadNumbers
+    ensures { λ r. ⌜ readLeft (toldInRead r) (now (store .exit)) (now (records .exit)) ≡ readStep (now (table .entry)) objects links (stores (now (store .entry)) (now (records .entry))) ⌝ }
+{
+    tell_read(gsub_read::read_gsub(store, records, objects, links, table))
+}
