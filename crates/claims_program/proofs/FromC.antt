@@ -8,7 +8,7 @@ use Rattle.claims_program.specs.FromC.{CalledC, c-start, c-open, c-put, 
 use Rattle.claims_program.proofs.Chain.{step-answers, steps-claim, steps-same}
 
 -- the contract makes each the step
-c-step : (s : Stores) (m : Made) → CalledC s m → m .left ≡ lentStep (m .call) s
+pub c-step : (s : Stores) (m : Made) → CalledC s m → m .left ≡ lentStep (m .call) s
 unfolding lentStep
 c-step _ _ (c-start f) = ap storesLeft (f .promised)
 c-step _ _ (c-open f) = ap storesLeft (f .promised)

@@ -8,7 +8,7 @@ use Rattle.claims_program.specs.Program.{Called, by-start, by-open, by-p
 use Rattle.claims_program.proofs.Chain.{step-answers, steps-claim, steps-same}
 
 -- the contract makes each the step
-called-step : (s : Stores) (m : Made) → Called s m → m .left ≡ lentStep (m .call) s
+pub called-step : (s : Stores) (m : Made) → Called s m → m .left ≡ lentStep (m .call) s
 unfolding lentStep
 called-step _ _ (by-start f) = ap storesLeft (f .promised)
 called-step _ _ (by-open f) = ap storesLeft (f .promised)

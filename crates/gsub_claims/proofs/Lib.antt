@@ -1,0 +1,4 @@
+pub mod Demand
+pub mod Again
+pub mod Program
+pub mod Theorems

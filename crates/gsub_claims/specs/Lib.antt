@@ -1,0 +1,3 @@
+pub mod Demand
+pub mod Again
+pub mod Program
