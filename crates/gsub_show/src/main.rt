@@ -1,0 +1,93 @@
+// Shows the GSUB table of standard input: its scripts, features and lookups, what stays of it where equal objects are kept once, and that the packed
+// table substitutes the same.
+mod names;
+mod substitutes;
+mod visits;
+
+use answer::Tally;
+use names::features;
+use names::scripts;
+use report::text;
+use report::value;
+use report_gsub::Repacked;
+use report_gsub::goes_on;
+use report_gsub::tell;
+use report_gsub::tell_too_long;
+use substitutes::differing;
+use substitutes::lookups;
+use visits::visits;
+
+const OUTPUT: i32 = 1;
+
+fn objects(name: &[u8], n: u64, bytes: u64) {
+    value(name, n);
+    value(b" objects, ", bytes);
+    text(b" bytes\n");
+}
+
+fn kept(table: &[u8], held: Tally) {
+    let v = visits(table);
+    objects(b"read: ", v.objects, v.bytes);
+    objects(
+        b"equal ones kept once: ",
+        held.objects as u64,
+        held.bytes as u64,
+    );
+}
+
+fn compare(table: &[u8], packed: &[u8]) {
+    let n = differing(table, packed);
+    if n == 0 {
+        text(b"read again: every lookup substitutes the same for every glyph\n");
+        return;
+    }
+    value(b"read again: ", n);
+    text(b" substitutes differ\n");
+}
+
+// In a second session.
+fn read_again(table: &[u8], packed: &[u8]) {
+    let mut out = io::large_buffer();
+    let told = report_gsub::repack(packed, &mut out);
+    let Repacked::Done(_, _) = told else {
+        text(b"read again: ");
+        tell(OUTPUT, told);
+        return;
+    };
+    compare(table, packed);
+}
+
+// The table that a pack left at the front of its output.
+fn show_packed(table: &[u8], out: &[u8], length: usize) {
+    value(b"packed: ", length as u64);
+    text(b" bytes\n");
+    if length <= out.len() {
+        read_again(table, &out[0..length]);
+    }
+}
+
+fn show(table: &[u8]) {
+    let mut out = io::large_buffer();
+    let told = report_gsub::repack(table, &mut out);
+    let Repacked::Done(length, held) = told else {
+        tell(OUTPUT, told);
+        return;
+    };
+    scripts(table);
+    features(table);
+    lookups(table);
+    kept(table, held);
+    show_packed(table, &out, length);
+}
+
+fn main() {
+    let mut input = io::large_buffer();
+    let n = io::read_full(0, &mut input);
+    if goes_on() {
+        tell_too_long(OUTPUT);
+        return;
+    }
+    value(b"table: ", n as u64);
+    text(b" bytes\n");
+    show(&input[..n]);
+}
