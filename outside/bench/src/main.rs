@@ -11,6 +11,7 @@ mod looking;
 mod ordering;
 mod packing;
 mod putting;
+mod reading;
 mod sessions;
 mod spaces;
 mod timing;
@@ -24,7 +25,7 @@ pub struct Line {
 }
 
 fn main() {
-    if spaces::asked() || ordering::asked() || copying::asked() {
+    if spaces::asked() || ordering::asked() || copying::asked() || reading::asked() {
         return;
     }
     println!(
@@ -57,6 +58,7 @@ fn main() {
     looking::lines().iter().for_each(print_looking);
     ordering::print();
     copying::print();
+    reading::print();
 }
 
 /// Speeds in gigabytes a second, of what is looked at and of what is summed.

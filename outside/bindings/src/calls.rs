@@ -4,7 +4,7 @@
 //! slices overlap nothing else that is lent.
 
 use crate::foreign;
-use crate::Answer;
+use crate::{Answer, GsubRead};
 
 /// Words of 32 bits that the record store needs.
 pub fn records_need(piece_limit: u32, link_limit: u32) -> usize {
@@ -67,4 +67,18 @@ pub fn pack(
     let (store, records) = (store.as_ptr(), records.as_ptr());
     let (out, work) = (out.as_mut_ptr(), work.as_mut_ptr());
     unsafe { foreign::scoterlime_pack(store, n, records, r, id, copies, out, o, work, w) }
+}
+
+/// Starts a session and reads a whole table into it.
+pub fn read_gsub(
+    store: &mut [u8],
+    records: &mut [u32],
+    piece_limit: u32,
+    link_limit: u32,
+    table: &[u8],
+) -> GsubRead {
+    let (n, r, t) = (store.len(), records.len(), table.len());
+    let (store, records, table) = (store.as_mut_ptr(), records.as_mut_ptr(), table.as_ptr());
+    let (p, l) = (piece_limit, link_limit);
+    unsafe { foreign::scoterlime_read_gsub(store, n, records, r, p, l, table, t) }
 }

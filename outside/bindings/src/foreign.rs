@@ -1,6 +1,6 @@
 //! The declarations of include/scoterlime.h.
 
-use crate::Answer;
+use crate::{Answer, GsubRead};
 
 extern "C" {
     pub fn scoterlime_records_need(piece_limit: u32, link_limit: u32) -> u64;
@@ -46,4 +46,14 @@ extern "C" {
         work: *mut u64,
         w: usize,
     ) -> Answer;
+    pub fn scoterlime_read_gsub(
+        store: *mut u8,
+        n: usize,
+        records: *mut u32,
+        r: usize,
+        piece_limit: u32,
+        link_limit: u32,
+        table: *const u8,
+        t: usize,
+    ) -> GsubRead;
 }

@@ -1,9 +1,10 @@
 //! The proved packer for Rust.
 //!
-//! [`calls`] has the eight calls on any two lent stores. [`Session`] keeps both
-//! stores borrowed from its start on, so that nothing else writes them between
-//! calls. What include/scoterlime.h asks of callers holds by Rust's slices:
-//! pointers good for their lengths, never null, and no two areas that overlap:
+//! [`calls`] has the eight calls on any two lent stores, and the read of a whole
+//! GSUB table. [`Session`] keeps both stores borrowed from its start on, so that
+//! nothing else writes them between calls. What include/scoterlime.h asks of
+//! callers holds by Rust's slices: pointers good for their lengths, never null,
+//! and no two areas that overlap:
 //!
 //! ```compile_fail
 //! let (mut store, mut records) = ([0; 8], vec![0; bindings::records_need(1, 0)]);
@@ -15,7 +16,7 @@ mod foreign;
 mod session;
 
 pub use calls::{records_need, work_need};
-pub use session::{Packed, Refused, Session};
+pub use session::{NotRead, Packed, Refused, Session};
 
 /// What a call tells: the struct of include/scoterlime.h. Values that a call
 /// does not have are 0.
@@ -33,4 +34,20 @@ pub struct Answer {
     pub field: u64,
     pub needed: u64,
     pub copies: u64,
+}
+
+/// What a read of a GSUB table tells: its struct of include/scoterlime.h.
+/// Values that it does not have are 0.
+#[repr(C)]
+#[derive(Clone, Copy, Debug, Default, PartialEq, Eq)]
+pub struct GsubRead {
+    pub number: u64,
+    pub bytes: u64,
+    pub links: u64,
+    pub objects: u64,
+    pub depth: u64,
+    /// The root's id.
+    pub id: u64,
+    /// Where in the table a field is that cannot be read.
+    pub place: u64,
 }

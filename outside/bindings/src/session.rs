@@ -1,10 +1,14 @@
 //! A session that keeps its two stores borrowed.
 
-use crate::{calls, Answer};
+use crate::{calls, Answer, GsubRead};
 
 /// A refused call: its number, and what stands beside it.
 #[derive(Clone, Copy, Debug, PartialEq, Eq)]
 pub struct Refused(pub Answer);
+
+/// A refused read: its number, and what stands beside it.
+#[derive(Clone, Copy, Debug, PartialEq, Eq)]
+pub struct NotRead(pub GsubRead);
 
 /// A table, at the front of the output, and how many copies were made for it.
 #[derive(Clone, Copy, Debug, PartialEq, Eq)]
@@ -35,6 +39,22 @@ impl<'a> Session<'a> {
     ) -> Result<Session<'a>, Refused> {
         told(calls::start(store, records, piece_limit, link_limit))?;
         Ok(Session { store, records })
+    }
+
+    /// Begins a session that holds a whole GSUB table, and gives the root's id.
+    pub fn read_gsub(
+        store: &'a mut [u8],
+        records: &'a mut [u32],
+        piece_limit: u32,
+        link_limit: u32,
+        table: &[u8],
+    ) -> Result<(Session<'a>, u32), NotRead> {
+        let told = calls::read_gsub(store, records, piece_limit, link_limit, table);
+        match told.number {
+            // An id is below 16,384.
+            0 => Ok((Session { store, records }, told.id as u32)),
+            _ => Err(NotRead(told)),
+        }
     }
 
     pub fn open(&mut self) -> Result<Answer, Refused> {

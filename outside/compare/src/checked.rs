@@ -5,6 +5,7 @@ use crate::made::{self, Room};
 use crate::pair::{Outcome, Pair};
 use crate::shapes::{Graph, Piece};
 use reference::call::Call;
+use reference::gsub::GsubRead;
 use reference::random::Numbers;
 
 pub struct Checked {
@@ -30,6 +31,15 @@ impl Checked {
         }
     }
 
+    /// Stores that hold anything, for a read to begin a session in. Until then
+    /// the claims are of no session that is there.
+    pub fn unread(store: usize, records: usize, numbers: &mut Numbers) -> Checked {
+        Checked {
+            pair: Pair::new(store, records, numbers),
+            claims: Claims::begin(1, 0, store, records),
+        }
+    }
+
     /// All pieces of a graph closed, without a call.
     pub fn made(graph: &Graph, room: Room, numbers: &mut Numbers) -> Checked {
         assert!(!graph.iter().any(Piece::hopeless), "no such session");
@@ -46,6 +56,13 @@ impl Checked {
         let outcome = self.pair.run(call, numbers);
         self.claims.check(call, &outcome);
         outcome
+    }
+
+    /// Reads a table, which begins the session anew.
+    pub fn read_gsub(&mut self, pieces: u32, links: u32, table: &[u8]) -> GsubRead {
+        let told = self.pair.read_gsub(pieces, links, table);
+        self.claims.check_read(pieces, links, table, &told);
+        told
     }
 
     /// A pack without copies whose output is this many bytes shorter than the

@@ -3,12 +3,14 @@
 
 use crate::met::Met;
 use crate::pair::Outcome;
+use reference::answer::{DONE, OUT_OF_RANGE, UNREADABLE};
 use reference::call::Call;
+use reference::gsub::{reading, GsubRead};
 use reference::history::History;
 use reference::limits;
 use reference::lines::script;
 use reference::reader;
-use reference::reading::{has_inner_start, Reading};
+use reference::reading::{has_inner_start, same, Reading};
 use reference::Answer;
 use std::collections::HashSet;
 use std::rc::Rc;
@@ -65,6 +67,26 @@ impl Claims {
         }
         if let (Call::Start { pieces, links }, 0) = (call, outcome.answer.number) {
             self.limits = (*pieces, *links);
+        }
+    }
+
+    /// What a read of a table told. The root reads as the table does, and the
+    /// table shows it.
+    pub fn check_read(&mut self, pieces: u32, links: u32, table: &[u8], told: &GsubRead) {
+        let limits = (pieces, links);
+        let expected = self.history.read_gsub(limits, self.lengths, table);
+        assert_eq!(*told, expected);
+        if told.number != OUT_OF_RANGE {
+            self.limits = limits;
+        }
+        let reading = reading::reading(table);
+        assert!(told.number != UNREADABLE || reading.is_none());
+        if told.number == DONE {
+            let root = self.history.reading(told.id as u32).expect("closed");
+            assert!(same(root, &reading.expect("it is read")));
+            assert!(reader::shows(table, root));
+            let length = self.history.table_length(told.id as u32);
+            assert_eq!(length, Some(told.bytes), "all that is held is the table's");
         }
     }
 

@@ -7,10 +7,13 @@
 //!   hold one, [`tamper`] damaged stores.
 //! * [`writing`] has many lists of calls that write one graph, [`written`] the sessions that they
 //!   leave, [`by_id`] orders that differ between these.
+//! * [`tables`] and [`crafted`] make GSUB tables of [`parts`], [`real`] has those of fonts, [`spoilt`]
+//!   damages them, [`reads`] reads them.
 
 pub mod by_id;
 pub mod checked;
 pub mod claims;
+pub mod crafted;
 pub mod decided;
 pub mod fenced;
 pub mod groups;
@@ -19,10 +22,15 @@ pub mod lists;
 pub mod made;
 pub mod met;
 pub mod pair;
+pub mod parts;
 pub mod proved;
+pub mod reads;
+pub mod real;
 pub mod seed;
 pub mod shapes;
 pub mod sharing;
+pub mod spoilt;
+pub mod tables;
 pub mod tamper;
 pub mod writing;
 pub mod written;

@@ -139,19 +139,23 @@ impl Style {
         }
     }
 
-    /// Mostly limits that the record store has room for.
     fn restart(&self, numbers: &mut Numbers) -> Call {
-        Call::Start {
-            pieces: match numbers.below(8) {
-                0 => numbers.one_of(&[0, 16_384, 16_385, u32::MAX]),
-                1 => self.pieces + 1,
-                _ => 1 + numbers.below(self.pieces as usize) as u32,
-            },
-            links: match numbers.below(8) {
-                0 => numbers.one_of(&[65_536, 65_537, u32::MAX]),
-                _ => numbers.below(self.links as usize + 1) as u32,
-            },
-        }
+        let (pieces, links) = self.limits(numbers);
+        Call::Start { pieces, links }
+    }
+
+    /// Of pieces and links, mostly such that the record store has room for them.
+    pub fn limits(&self, numbers: &mut Numbers) -> (u32, u32) {
+        let pieces = match numbers.below(8) {
+            0 => numbers.one_of(&[0, 16_384, 16_385, u32::MAX]),
+            1 => self.pieces + 1,
+            _ => 1 + numbers.below(self.pieces as usize) as u32,
+        };
+        let links = match numbers.below(8) {
+            0 => numbers.one_of(&[65_536, 65_537, u32::MAX]),
+            _ => numbers.below(self.links as usize + 1) as u32,
+        };
+        (pieces, links)
     }
 
     fn link(&self, claims: &Claims, numbers: &mut Numbers) -> Call {

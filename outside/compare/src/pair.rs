@@ -4,9 +4,13 @@ use crate::fenced::Fenced;
 use crate::proved::Proved;
 use reference::answer::NUMBERS;
 use reference::call::{Call, Stores};
-use reference::lines::script;
+use reference::gsub::{self, GsubRead};
+use reference::lines::{hex, script};
 use reference::random::Numbers;
 use reference::Answer;
+
+/// Of a table that is not read alike so many bytes are printed.
+const SHOWN: usize = 400;
 
 /// How often each number was told.
 pub type Counts = [usize; NUMBERS];
@@ -56,6 +60,31 @@ impl Pair {
         let answer = self.run_lent(call, &output, &work);
         self.told[answer.answer.number as usize] += 1;
         answer
+    }
+
+    /// Reads a table on both.
+    pub fn read_gsub(&mut self, pieces: u32, links: u32, table: &[u8]) -> GsubRead {
+        self.before.bytes.clone_from(&self.reference.bytes);
+        self.before.records.clone_from(&self.reference.records);
+        let expected = gsub::read_gsub(&mut self.reference, pieces, links, table);
+        let lent = Fenced::new(table, 0x5f);
+        let told = self.proved.read_gsub(pieces, links, lent.inside());
+        let line = || {
+            let shown = hex(&table[..table.len().min(SHOWN)]);
+            format!("limits {pieces} {links}, {} bytes {shown}", table.len())
+        };
+        assert_eq!(told, expected, "{}", line());
+        assert!(self.proved.same(&self.reference), "stores: {}", line());
+        let fences = self.proved.fences_stand() && lent.stands() && lent.inside() == table;
+        assert!(fences, "a write outside lent memory: {}", line());
+        if told.number != 0 {
+            // 13 of a start leaves all as it was.
+            self.before.run(&Call::Start { pieces, links });
+            let left = self.proved.same(&self.before);
+            assert!(left, "refused, and not as started: {}", line());
+        }
+        self.told[told.number as usize] += 1;
+        told
     }
 
     fn run_lent(&mut self, call: &Call, output: &[u8], work: &[u64]) -> Outcome {

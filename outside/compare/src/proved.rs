@@ -3,6 +3,7 @@
 use crate::fenced::Fenced;
 use bindings::calls;
 use reference::call::{Call, Stores};
+use reference::gsub::GsubRead;
 use reference::Answer;
 
 pub struct Proved {
@@ -33,6 +34,20 @@ impl Proved {
                 calls::pack(bytes, records, *id, *copies, output, work)
             }
         })
+    }
+
+    pub fn read_gsub(&mut self, pieces: u32, links: u32, table: &[u8]) -> GsubRead {
+        let (bytes, records) = (self.bytes.inside_mut(), self.records.inside_mut());
+        let told = calls::read_gsub(bytes, records, pieces, links, table);
+        GsubRead {
+            number: told.number,
+            bytes: told.bytes,
+            links: told.links,
+            objects: told.objects,
+            depth: told.depth,
+            id: told.id,
+            place: told.place,
+        }
     }
 
     pub fn fences_stand(&self) -> bool {

@@ -38,12 +38,14 @@ pub const OUTPUT_SHORT: u64 = 10;
 pub const NO_FIT: u64 = 11;
 pub const NOT_SOUND: u64 = 12;
 pub const OUT_OF_RANGE: u64 = 13;
+/// Of a read alone.
+pub const UNREADABLE: u64 = 15;
 pub const HOPELESS: u64 = 16;
 
 /// One more than the greatest number: the length of a count by numbers.
 pub const NUMBERS: usize = 17;
 
-/// Whether there is such a number.
+/// Whether one of the eight calls tells it.
 pub fn is_number(number: usize) -> bool {
     matches!(number, 0..=13 | 16)
 }

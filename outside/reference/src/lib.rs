@@ -7,6 +7,7 @@
 //! * [`session`] and [`pack`] are the eight calls.
 //! * [`history`] says what the calls must tell, from their arguments alone.
 //! * [`reader`] checks that a packed table shows a reading.
+//! * [`gsub`] reads a whole GSUB table into a session.
 
 #![forbid(unsafe_code)]
 
@@ -17,6 +18,7 @@ pub mod copies;
 mod copy_cases;
 pub mod graph;
 pub mod graphs;
+pub mod gsub;
 pub mod history;
 mod hopeless_traps;
 mod inner_traps;

@@ -1,13 +1,43 @@
 //! The input and the expected output of the proved programs are what this
 //! program prints.
 
+use reference::call::{Call, Stores};
+use reference::gsub::{lookup_count, read_gsub, substitute};
+use reference::limits::{record_need, work_need};
 use reference::printed;
 
 const CRATES: &str = concat!(env!("CARGO_MANIFEST_DIR"), "/../../crates");
 
-fn file(path: &str) -> String {
+fn bytes(path: &str) -> Vec<u8> {
     let path = format!("{CRATES}/{path}");
-    std::fs::read_to_string(&path).unwrap_or_else(|error| panic!("{path}: {error}"))
+    std::fs::read(&path).unwrap_or_else(|error| panic!("{path}: {error}"))
+}
+
+fn file(path: &str) -> String {
+    String::from_utf8(bytes(path)).expect("text")
+}
+
+/// Limits that the table fits.
+const PIECES: u32 = 64;
+const LINKS: u32 = 64;
+
+/// The table as this program reads and packs it.
+fn repacked(table: &[u8]) -> Vec<u8> {
+    let mut stores = Stores::new(
+        table.len(),
+        record_need(PIECES.into(), LINKS.into()) as usize,
+    );
+    let read = read_gsub(&mut stores, PIECES, LINKS, table);
+    assert_eq!(read.number, 0);
+    let pack = Call::Pack {
+        id: read.id as u32,
+        copies: 0,
+        output: table.len(),
+        work: work_need(PIECES.into(), LINKS.into(), 0) as usize,
+    };
+    let told = stores.run(&pack);
+    assert_eq!(told.answer.number, 0);
+    told.output[..told.answer.length as usize].to_vec()
 }
 
 #[test]
@@ -23,4 +53,25 @@ fn cases_output_is_as_told() {
 #[test]
 fn orders_output_is_as_printed() {
     assert_eq!(file("orders/stdout"), printed::orders());
+}
+
+#[test]
+fn repack_output_is_as_packed() {
+    assert_eq!(bytes("repack/stdout"), repacked(&bytes("repack/stdin")));
+}
+
+#[test]
+fn gsub_show_output_has_every_substitute() {
+    let (table, printed) = (bytes("gsub_show/stdin"), file("gsub_show/stdout"));
+    for lookup in 0..lookup_count(&table) {
+        let changed = (0..=u16::MAX).filter(|&glyph| substitute(&table, lookup, glyph) != glyph);
+        let (start, end) = (
+            format!("lookup {lookup}: "),
+            format!(" glyphs substituted {}", changed.count()),
+        );
+        let mut lines = printed.lines();
+        assert!(lines.any(|line| line.starts_with(&start) && line.ends_with(&end)));
+    }
+    let packed = format!("packed: {} bytes", repacked(&table).len());
+    assert!(printed.lines().any(|line| line == packed));
 }

@@ -8,6 +8,7 @@ mod copies;
 mod ends;
 mod full;
 mod graphs;
+mod gsub;
 mod hopeless;
 mod largest;
 mod made;

@@ -1,0 +1,23 @@
+//! A layer above the packer: a GSUB 1.0 table of single substitutions, by the
+//! OpenType specification, read from its bytes into a session.
+//!
+//! * [`read_gsub`] is the call, [`walk`] the way that it takes.
+//! * [`reading`] says what a table reads, without a session.
+//! * [`substitute`] says what a lookup of a table does to a glyph.
+
+mod read;
+pub mod reading;
+mod substitute;
+mod walk;
+
+pub use read::{read_gsub, GsubRead};
+pub use substitute::{lookup_count, substitute};
+
+/// The bit of a lookup's flag by which a mark filtering set follows the offsets.
+const USE_MARK_FILTERING_SET: u16 = 0x0010;
+
+/// A big-endian number of two bytes, if the slice has both.
+fn number(slice: &[u8], place: usize) -> Option<u16> {
+    let field = slice.get(place..)?.first_chunk()?;
+    Some(u16::from_be_bytes(*field))
+}

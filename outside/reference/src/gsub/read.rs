@@ -1,0 +1,88 @@
+//! The call that reads a table into a session.
+
+use super::walk::{Refusal, Walk};
+use crate::answer::{Answer, DONE};
+use crate::call::{Call, Stores};
+use crate::history::History;
+
+/// What a read tells. Values that it does not have are 0.
+#[derive(Clone, Copy, Debug, Default, PartialEq, Eq)]
+pub struct GsubRead {
+    pub number: u64,
+    /// Held bytes.
+    pub bytes: u64,
+    /// Held links.
+    pub links: u64,
+    /// Closed pieces.
+    pub objects: u64,
+    /// Open pieces.
+    pub depth: u64,
+    /// The id of the whole table's piece.
+    pub id: u64,
+    /// Beside 15, where in the slice the field is.
+    pub place: u64,
+}
+
+impl GsubRead {
+    fn accepted(id: u32, tally: Answer) -> GsubRead {
+        GsubRead {
+            number: tally.number,
+            bytes: tally.bytes,
+            links: tally.links,
+            objects: tally.objects,
+            depth: tally.depth,
+            id: id.into(),
+            place: 0,
+        }
+    }
+
+    fn refused(number: u64, place: u64) -> GsubRead {
+        GsubRead {
+            number,
+            place,
+            ..GsubRead::default()
+        }
+    }
+}
+
+/// Starts a session in these stores and reads the table into it.
+pub fn read_gsub(stores: &mut Stores, pieces: u32, links: u32, table: &[u8]) -> GsubRead {
+    read_by(pieces, links, table, &mut |call| stores.run(call).answer)
+}
+
+/// The read of a session by its calls. A refused one leaves what a start does.
+fn read_by(
+    pieces: u32,
+    links: u32,
+    table: &[u8],
+    run: &mut dyn FnMut(&Call) -> Answer,
+) -> GsubRead {
+    let start = Call::Start { pieces, links };
+    let started = run(&start);
+    if started.number != DONE {
+        return GsubRead::refused(started.number, 0);
+    }
+    let walked = Walk { slice: table, run }.whole();
+    match walked {
+        Ok(id) => GsubRead::accepted(id, run(&Call::Tally)),
+        Err(Refusal { number, place }) => {
+            run(&start);
+            GsubRead::refused(number, place)
+        }
+    }
+}
+
+impl History {
+    /// Feeds a read that lends stores of these lengths.
+    pub fn read_gsub(
+        &mut self,
+        (pieces, links): (u32, u32),
+        (store, records): (usize, usize),
+        table: &[u8],
+    ) -> GsubRead {
+        read_by(pieces, links, table, &mut |call| {
+            let told = self.feed(call, store, records);
+            told.expect("a read makes no pack")
+        })
+    }
+}
