@@ -1,2 +1,3 @@
 pub mod Compares
+pub mod Steps
 pub mod Writes

@@ -6,8 +6,8 @@ use native.Mathlib.Nat.{add-zero}
 use lib.ListN.{length, drop}
 use Rattle.lists.specs.Lists.{over}
 use Rattle.memory.proofs.Writes.{copy-next, copy-all}
-use Rattle.memory.proofs.bytes.copy.Statement.{statement}
-use Rattle.memory.proofs.bytes.copy.Tie as tie
+use Rattle.memory.proofs.bytes.copy_each.Statement.{statement}
+use Rattle.memory.proofs.bytes.copy_each.Tie as tie
 
 abbrev Inv-loop : tie.InvT-loop
 Inv-loop s₀ at src i₀ s i = (i ≤ length src) × (length s ≡ length s₀) × (over (at + i) (drop i src) s ≡ over at src s₀)
@@ -42,8 +42,8 @@ same-length c = search needs
 returns : tie.Need-returns Inv-loop μ-loop
 returns c = sym (copy-all _ _ _ _ (search needs)) ∙ c .before .loop .inv .2
 
-pub copy-spec : {M : Type 1} → statement M
-copy-spec =
+pub copy-each-spec : {M : Type 1} → statement M
+copy-each-spec =
     tie.close
     (tie.spec
     Inv-loop
