@@ -1,9 +1,10 @@
 //! Packs by each of the three orders beside those of the plain packer, and what
 //! each order alone takes where the one before does not fit.
 //!
-//! `cargo run --offline --profile bench --package bench -- fan "kahn order"` packs
-//! the largest fan again and again for some seconds, for a profiler to look at;
-//! with `plain` as a third word the plain packer does.
+//! `cargo run --offline --profile bench --package bench -- orders` prints them alone;
+//! with `fan "kahn order"` the largest fans are packed again and again for some
+//! seconds, for a profiler to look at; with `plain` as a third word the plain packer
+//! does.
 
 use crate::timing::microseconds;
 use bindings::calls;
@@ -23,7 +24,10 @@ const LONG: Duration = Duration::from_secs(6);
 
 const COUNTS: [usize; 2] = [4_000, 16_000];
 const ROUNDS: usize = 24;
-const TURNS: usize = 10;
+const TURNS: usize = 2;
+
+/// Different graphs that are packed in turn.
+const GRAPHS: u64 = 8;
 
 struct Shape {
     name: &'static str,
@@ -58,11 +62,16 @@ struct Line {
     times: [Times; 2],
 }
 
-/// Packs one graph again and again, if the words name a shape and an order.
+/// Prints the lines alone, or packs one shape's graphs again and again, if the words
+/// ask for it.
 pub fn asked() -> bool {
     let words: Vec<String> = env::args().skip(1).collect();
     let words: Vec<&str> = words.iter().map(String::as_str).collect();
     let (shape, order, pack) = match words[..] {
+        ["orders"] => {
+            print();
+            return true;
+        }
         [shape, order] => (shape, order, Case::pack as fn(&mut Case)),
         [shape, order, "plain"] => (shape, order, Case::pack_plainly as fn(&mut Case)),
         _ => return false,
@@ -138,34 +147,38 @@ fn less(times: Times, before: Times) -> Times {
     [times[0] - before[0], times[1] - before[1]]
 }
 
-/// A pack of which an order is the first that fits.
+/// Graphs of one shape, each with a root of which an order is the first that fits;
+/// and memory that is lent to the packs of all. One graph packed again and again
+/// would have its branches learnt.
 struct Case {
-    stores: Stores,
-    root: u32,
+    graphs: Vec<Written>,
     work: Vec<u64>,
     table: Vec<u8>,
     plain_table: Vec<u8>,
 }
 
-impl Case {
-    fn new(shape: &Shape, count: usize, order: Order) -> Case {
-        let mut numbers = Numbers::new(1);
+struct Written {
+    stores: Stores,
+    root: u32,
+    work: usize,
+}
+
+impl Written {
+    fn new(shape: &Shape, count: usize, order: Order, numbers: &mut Numbers) -> Written {
         let links = shape.links * count;
-        let graph = decided::graph(order, shape.family, count, links, &mut numbers);
+        let graph = decided::graph(order, shape.family, count, links, numbers);
         let room = Room {
             pieces: count as u32,
             links: shapes::links(&graph) as u32,
             store: shapes::bytes(&graph),
         };
-        let case = Case {
-            stores: made::stores(&graph, room, &mut numbers),
+        let written = Written {
+            stores: made::stores(&graph, room, numbers),
             root: count as u32 - 1,
-            work: vec![0; bindings::work_need(room.pieces, room.links, 0)],
-            table: vec![0; room.store],
-            plain_table: vec![0; room.store],
+            work: bindings::work_need(room.pieces, room.links, 0),
         };
-        assert_eq!(case.first_fit(), Some(order));
-        case
+        assert_eq!(written.first_fit(), Some(order));
+        written
     }
 
     fn first_fit(&self) -> Option<Order> {
@@ -179,23 +192,62 @@ impl Case {
         Some(ORDERS[first])
     }
 
-    fn pack(&mut self) {
+    fn pack(&self, table: &mut [u8], work: &mut [u64]) {
         let Stores { bytes, records } = &self.stores;
-        let (table, work) = (&mut self.table, &mut self.work);
+        let work = &mut work[..self.work];
         let answer = calls::pack(bytes, records, self.root, 0, table, work);
         assert_eq!(answer.number, 0);
     }
 
-    fn pack_plainly(&mut self) {
+    fn pack_plainly(&self, table: &mut [u8]) {
         let Stores { bytes, records } = &self.stores;
-        let packed = plain::pack(bytes, records, self.root, 0, &mut self.plain_table);
-        assert!(packed.is_ok());
+        assert!(plain::pack(bytes, records, self.root, 0, table).is_ok());
     }
 }
 
-/// A pack a few times by the one and then by the other, in rounds over all packs,
-/// so that a busy machine slows all. The same memory is lent in every turn, as a
-/// caller would; the plain packer allocates its own besides.
+impl Case {
+    fn new(shape: &Shape, count: usize, order: Order) -> Case {
+        let written = |seed| Written::new(shape, count, order, &mut Numbers::new(seed));
+        let graphs: Vec<Written> = (1..=GRAPHS).map(written).collect();
+        let work = graphs.iter().map(|graph| graph.work).max();
+        let table = graphs.iter().map(|graph| graph.stores.bytes.len()).max();
+        let (work, table) = (work.unwrap_or(0), table.unwrap_or(0));
+        let mut case = Case {
+            graphs,
+            work: vec![0; work],
+            table: vec![0; table],
+            plain_table: vec![0; table],
+        };
+        case.compare();
+        case
+    }
+
+    /// Both write the same tables.
+    fn compare(&mut self) {
+        for graph in &self.graphs {
+            graph.pack(&mut self.table, &mut self.work);
+            graph.pack_plainly(&mut self.plain_table);
+            assert!(self.table == self.plain_table);
+        }
+    }
+
+    fn pack(&mut self) {
+        for graph in &self.graphs {
+            graph.pack(&mut self.table, &mut self.work);
+        }
+    }
+
+    fn pack_plainly(&mut self) {
+        for graph in &self.graphs {
+            graph.pack_plainly(&mut self.plain_table);
+        }
+    }
+}
+
+/// The packs of all graphs a few times by the one and then by the other, in rounds
+/// over all cases, so that a busy machine slows all; the time is of one pack. The
+/// same memory is lent in every turn, as a caller would; the plain packer allocates
+/// its own besides.
 fn timed(mut cases: [Case; 3]) -> [Times; 3] {
     let mut times = [[f64::MAX; 2]; 3];
     for _ in 0..ROUNDS {
@@ -208,8 +260,5 @@ fn timed(mut cases: [Case; 3]) -> [Times; 3] {
             }
         }
     }
-    for case in cases {
-        assert!(case.table == case.plain_table);
-    }
-    times
+    times.map(|both| both.map(|time| time / GRAPHS as f64))
 }
