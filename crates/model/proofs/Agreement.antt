@@ -1,11 +1,10 @@
 -- docs/RULES.md, section 8: every call of a list tells what the history says, whatever the calls are.
-use mathlib.Core.Path.{_≡_, refl, sym, ap, ap₂, _∙_}
-use Prim.Native.Nat.{ℕ, _+_, _<_}
-use mathlib.Core.List.{List, [], _∷_, map, List·Memᴰ, List·Memᴰ·not-nil, List·Memᴰ·cases-cons, Memᴰ·cast}
+use mathlib.Core.Path.{_≡_, refl, ap, _∙_}
+use Prim.Native.Nat.{ℕ, _<_}
+use mathlib.Core.List.{List, [], _∷_}
 use mathlib.Core.Bool.{true, true≢false}
-use mathlib.Core.Logic.{_⊎_, inl, inr}
 use native.Mathlib.Omega.{arith}
-use lib.ListN.{length, length-map}
+use lib.ListN.{length}
 use borrow.Author.Tests.{leb-false, not-false}
 use Rattle.lists.specs.Lists.{pick}
 use Rattle.answer.specs.Number.{number, noTally}
@@ -18,15 +17,14 @@ use Rattle.model.specs.Reading.{Reading, readingAt, readings}
 use Rattle.model.specs.Judge.{Limits, Verdict, accepted, refused, noTallyBeside, judgeStart, judgeOpen, judgePut, judgeLink, judgeClose, judgeDrop, judgeTally, judgePack}
 use Rattle.model.specs.Told.{doneClose, donePack, refusal}
 use Rattle.model.specs.Session.{Needs, Session, tallyOf, started, withOpens, innermost, outer, onInnermost, twin, sealed, SessionCall, startCall, openCall, putCall, linkCall, closeCall, dropCall, tallyCall, Left, settleCall, step, PackLeft, content, arrangedIn, settlePack, pack, Call, sessionCall, packCall, afterCall}
-use Rattle.model.specs.History.{History, counts, begun, judged, accept, next, after, idTold, tell, expected, Lengthened, Packed, PackAgrees, Agrees, AllAgree}
-use Rattle.model.proofs.Bags.{one-same}
-use Rattle.model.proofs.Reach.{reached-rooted, reached-low}
-use Rattle.model.proofs.Lengths.{total-read, placed-below, length-different}
-use Rattle.model.proofs.Growths.{Base, objects-base, Grew, grew-length, copies-reached}
+use Rattle.model.specs.History.{History, counts, begun, judged, accept, next, after, idTold, tell, expected, Packed, PackAgrees, Agrees, AllAgree}
+use Rattle.model.proofs.Reach.{reached-low}
+use Rattle.model.proofs.Lengths.{lengthened}
+use Rattle.model.proofs.Growths.{Base, objects-base}
 use Rattle.model.proofs.Arrangements.{arranged-reads, arranged-laid}
-use Rattle.model.proofs.Verdicts.{passes, beside-number, refused-number}
 use Rattle.model.proofs.Twins.{distinct-id, readings-count}
 use Rattle.model.proofs.Slots.{slot-start}
+use Rattle.model.proofs.Verdicts.{passes, beside-number, refused-number}
 use Rattle.model.proofs.Mirrors.{Mirrors, mirrors-started, mirrors-limits, mirrors-counts, mirrors-size, mirrors-hopeless, mirrors-acyclic, mirrors-fields, mirrors-twin, mirrors-open, mirrors-put, mirrors-link, mirrors-close, mirrors-drop}
 
 -- ---- the calls on a session
@@ -73,16 +71,6 @@ module _ (n : Needs) {s : Session} {h : History} (m : Mirrors s h) where
 
 -- ---- pack
 
--- what holds of the reading of each object of a list
-mapped-in : (ρ : ℕ → Reading) (l : List ℕ) (t : List Reading) → ((i : ℕ) → 0 < count i l → List·Memᴰ (ρ i) t) → (r : Reading) → List·Memᴰ r (map ρ l) → List·Memᴰ r t
-unfolding count
-mapped-in ρ [] t h r m = absurd (List·Memᴰ·not-nil m)
-mapped-in ρ (x ∷ l) t h r m = go (mapped-in ρ l t (λ i k. h i (omega arith)) r) (List·Memᴰ·cases-cons m)
-  where
-    go : (List·Memᴰ r (map ρ l) → List·Memᴰ r t) → (r ≡ ρ x) ⊎ List·Memᴰ r (map ρ l) → List·Memᴰ r t
-    go i (inl e) = Memᴰ·cast e (h x (omega (arith, one-same x)))
-    go i (inr n) = i n
-
 module _ {s : Session} {h : History} (m : Mirrors s h) (id copies : ℕ) where
   abbrev g : Graph
   g = graphOf (s .closed)
@@ -106,26 +94,12 @@ module _ {s : Session} {h : History} (m : Mirrors s h) (id copies : ℕ) where
       let e = readings-count (s .closed) in
       distinct-id (readings (s .closed)) (m .distinct) a b (omega (arith, reached-low g id a x)) (omega (arith, reached-low g id b y))
 
-  lengthened : id < length (s .closed) → Grew g id (c .grown) → Lengthened (ρ id) (lengthOf c) (length (c .grown .copies))
-  lengthened k v =
-      let y = base .acyclic in
-      let r = reached-rooted g id y in
-      record {
-        made = map ρ (c .grown .copies);
-        each = mapped-in ρ (c .grown .copies) _ (λ i x. placed-below (λ i. i) g (content s) ρ (reached g id) id y r (base .sized) (base .reads) i (copies-reached v i x));
-        count = length-map (c .grown .copies) ρ;
-        sum =
-            grew-length v
-            ∙ ap₂ _+_ (length-different (λ i. i) g (content s) ρ (reached g id) id y r (base .sized) (base .reads) (reached-id k))
-            (sym (total-read g (content s) ρ (base .sized) (base .reads) (c .grown .copies)));
-      }
-
   -- the table of an order in which every link fits
   placed-packed : id < length (s .closed) → (o : List ℕ) → c .outcome ≡ placed o → Packed h id (packing (tableBy (content s) (c .grown) (placed o)))
   placed-packed k o e =
       let v = arranged-reads copies g (length (s .closed)) id base k e .grew in
       let l = arranged-laid copies g (length (s .closed)) id base k e in
-      rw (← m .read) record { shown = rw (v .root-own) at (l .shown); long = l .sum; sum = lengthened k v }
+      rw (← m .read) record { shown = rw (v .root-own) at (l .shown); long = l .sum; sum = lengthened base c v (reached-id k) }
 
   pack-agrees : (n : Needs) (out work : ℕ) → PackAgrees h id (pack n id copies out work s)
   unfolding pack

@@ -1,4 +1,4 @@
--- The hand-counted cases, the ends of the ranges, the refusals that apply at once, and the graphs that tell the orders apart: each by one claim over its list, which the checker computes.
+-- The hand-counted cases, the ends of the ranges and the refusals that apply at once: each by one claim over its list, which the checker computes.
 use mathlib.Core.Path.{_≡_, refl}
 use mathlib.Core.List.{[], _∷_, map}
 use mathlib.Core.Bool.{true}
@@ -9,14 +9,11 @@ use Rattle.model.specs.Bag.{one, count, without, zerosOf, lastOnce, leas
 use Rattle.model.specs.Graph.{kidsOf, waits, reachDown, reached}
 use Rattle.model.specs.Order.{orderFrom, orderBy}
 use Rattle.model.specs.Distance.{distanceAlong, relax, relaxAll, distancesBy, beyond, distance, kahnOrder, distanceOrder}
-use Rattle.model.specs.Labels.{merged, merge, begun, numbers}
-use Rattle.model.specs.Space.{narrow, narrowOf, nearFrom, near, spot, joinKids, joinAll, labelsBy, spaceIn}
 use Rattle.model.specs.Table.{before, offset, unfitLinks, unfitFrom, filled, objectBytes, tableFrom, tableOf}
 use Rattle.model.specs.Copies.{grownKey, spaceOrder, tryOrder, resolve, arranged, tableBy}
 use Rattle.model.specs.Judge.{verdict, numberOf}
 use Rattle.model.specs.Session.{step, pack, afterCall}
 use Rattle.model.specs.Cases.{numbersOf, idsOf, countsOf, tablesOf, right, allRight, cases, ends, edges, several}
-use Rattle.model.specs.OrderCases.{right as orderRight, allRight as ordersRight, cases as graphs}
 
 pub cases-right : allRight cases ≡ true
 unfolding allRight right numbersOf idsOf countsOf tablesOf afterCall step pack verdict anyHopeless arranged resolve tryOrder spaceOrder grownKey distanceAlong unfitFrom unfitLinks offset before tableBy tableOf tableFrom objectBytes filled kahnOrder distanceOrder distance distancesBy beyond relaxAll relax orderBy orderFrom reached reachDown waits kidsOf one count without zerosOf lastOnce least sameList total firstThat over holds bigEndian
@@ -34,7 +31,3 @@ edges-right = refl
 pub several-right : map (map numberOf) several ≡ (12 ∷ 1 ∷ 3 ∷ 4 ∷ 7 ∷ 6 ∷ []) ∷ (12 ∷ 1 ∷ 5 ∷ 16 ∷ 8 ∷ []) ∷ (12 ∷ 13 ∷ 13 ∷ 9 ∷ 4 ∷ 11 ∷ 10 ∷ 0 ∷ []) ∷ []
 unfolding verdict
 several-right = refl
-
-pub graphs-right : ordersRight graphs ≡ true
-unfolding ordersRight orderRight arranged resolve tryOrder spaceOrder grownKey distanceAlong spaceIn labelsBy joinAll joinKids spot near nearFrom narrowOf narrow numbers begun merge merged unfitFrom unfitLinks offset before kahnOrder distanceOrder distance distancesBy beyond relaxAll relax orderBy orderFrom reached reachDown waits kidsOf one count without zerosOf lastOnce least sameList total firstThat
-graphs-right = refl

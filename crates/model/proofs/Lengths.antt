@@ -1,22 +1,25 @@
--- The sum of the sizes of the objects below a root is that of the different readings among the root's and those below it.
-use mathlib.Core.Path.{_≡_, refl, sym, ap, subst, _∙_}
-use Prim.Native.Nat.{ℕ, _<_}
+-- The sum of the sizes of the objects below a root is that of the different readings among the root's and those below it; a table with copies is longer by the readings copied.
+use mathlib.Core.Path.{_≡_, refl, sym, ap, ap₂, subst, _∙_}
+use Prim.Native.Nat.{ℕ, _+_, _<_}
 use mathlib.Core.List.{List, [], _∷_, _++_, map, List·Memᴰ, List·Memᴰ·head, List·Memᴰ·tail, List·Memᴰ·not-nil, List·Memᴰ·cases-cons, List·Memᴰ·append-cases, Memᴰ·append-left, Memᴰ·append-right, Memᴰ·cast}
 use mathlib.Core.Bool.{Bool, true, false, _||_}
 use mathlib.Core.Logic.{_⊎_, inl, inr}
 use native.Mathlib.Omega.{arith}
-use lib.ListN.{length}
+use lib.ListN.{length, length-map}
 use Rattle.lists.specs.Lists.{pick, total}
 use Rattle.model.specs.Bag.{count, without}
 use Rattle.model.specs.Object.{Link}
-use Rattle.model.specs.Graph.{Graph, kidsOf, Ranked, Closed, Once, Rooted}
+use Rattle.model.specs.Graph.{Graph, kidsOf, reached, Ranked, Closed, Once, Rooted}
 use Rattle.model.specs.Distance.{In, here, there, Path, start, along}
-use Rattle.model.specs.Reading.{Reading, bytes, field, readingSize, readLinks, Reads, sameReading, below, among, different}
+use Rattle.model.specs.Reading.{Reading, bytes, field, readingSize, readLinks, Reads, sameReading, below, among, different, Lengthened}
 use Rattle.model.specs.Table.{Sized}
+use Rattle.model.specs.Copies.{Arrangement, lengthOf}
 use Rattle.model.proofs.Bags.{Same, same, other, sameOr, one-same, count-without, total-without}
+use Rattle.model.proofs.Reach.{reached-rooted}
 use Rattle.model.proofs.Distances.{in-path}
 use Rattle.model.proofs.SameReading.{reading-equal, reading-self}
 use Rattle.model.proofs.Tables.{read-bytes}
+use Rattle.model.proofs.Growths.{Base, Grew, grew-length, copies-reached}
 
 -- ---- among, different
 
@@ -192,3 +195,31 @@ length-different rank g content ρ nodes root y r sized reads inj =
     from : (s : Reading) → (s ≡ ρ root) ⊎ Has s (below (ρ root)) → (c : ℕ) × (0 < count c nodes) × (s ≡ ρ c)
     from s (inl e) = (root, r .root-in, e)
     from s (inr m) = below-object g content ρ sized reads nodes (r .closed) (ρ root) (g .links root) (content root) (unfold Reads in reads root) (unfold Closed in λ c k. r .closed root c (r .root-in) k) s m
+
+-- ---- with copies
+
+-- what holds of the reading of each object of a list
+mapped-in : (ρ : ℕ → Reading) (l : List ℕ) (t : List Reading) → ((i : ℕ) → 0 < count i l → List·Memᴰ (ρ i) t) → (r : Reading) → List·Memᴰ r (map ρ l) → List·Memᴰ r t
+unfolding count
+mapped-in ρ [] t h r m = absurd (List·Memᴰ·not-nil m)
+mapped-in ρ (x ∷ l) t h r m = go (mapped-in ρ l t (λ i k. h i (omega arith)) r) (List·Memᴰ·cases-cons m)
+  where
+    go : (List·Memᴰ r (map ρ l) → List·Memᴰ r t) → (r ≡ ρ x) ⊎ List·Memᴰ r (map ρ l) → List·Memᴰ r t
+    go i (inl e) = Memᴰ·cast e (h x (omega (arith, one-same x)))
+    go i (inr n) = i n
+
+-- the table's length, where reached objects that read the same are the same
+pub lengthened : {g : Graph} {content : ℕ → List ℕ} {ρ : ℕ → Reading} {n root : ℕ} → Base g content ρ n → (c : Arrangement) → Grew g root (c .grown)
+    → ((a b : ℕ) → 0 < count a (reached g root) → 0 < count b (reached g root) → ρ a ≡ ρ b → a ≡ b) → Lengthened (ρ root) (lengthOf c) (length (c .grown .copies))
+lengthened {g} {content} {ρ} {n} {root} base c v inj =
+    let y = base .acyclic in
+    let r = reached-rooted g root y in
+    record {
+      made = map ρ (c .grown .copies);
+      each = mapped-in ρ (c .grown .copies) _ (λ i x. placed-below (λ i. i) g content ρ (reached g root) root y r (base .sized) (base .reads) i (copies-reached v i x));
+      count = length-map (c .grown .copies) ρ;
+      sum =
+          grew-length v
+          ∙ ap₂ _+_ (length-different (λ i. i) g content ρ (reached g root) root y r (base .sized) (base .reads) inj)
+          (sym (total-read g content ρ (base .sized) (base .reads) (c .grown .copies)));
+    }

@@ -14,12 +14,12 @@ pub mod Filled
 pub mod Tables
 pub mod Readings
 pub mod SameReading
-pub mod Lengths
 pub mod Beside
 pub mod Redirects
 pub mod Copies
 pub mod Reports
 pub mod Growths
+pub mod Lengths
 pub mod Resolving
 pub mod Arrangements
 pub mod Slots
@@ -36,5 +36,7 @@ pub mod Closings
 pub mod Written
 pub mod Refused
 pub mod Cases
+pub mod ObjectCases
+pub mod OrderCases
 pub mod SpaceCases
 pub mod CopyCases

@@ -1,13 +1,14 @@
 -- docs/RULES.md, section 9: cases 1 to 10, 16 to 20 and two more, on the abstract session, by one claim over a list of them; the ends of 3.1 and 3.2; 22 to 24, closes at the edge of what can be filled; and 6.1, for link, close and pack.
 use Prim.Native.Nat.{ℕ}
-use mathlib.Core.List.{List, [], _∷_, _++_}
+use mathlib.Core.List.{List, [], _∷_, _++_, map}
 use mathlib.Core.Bool.{Bool, true, false, _&&_}
 use lib.Dec.{eqb}
 use Rattle.lists.specs.Lists.{sameList}
 use Rattle.answer.specs.Number.{noOverflow}
 use Rattle.answer.specs.declared.tally.Tally.{Tally}
-use Rattle.model.specs.Object.{Slot, newSlot, anyHopeless}
+use Rattle.model.specs.Object.{newSlot}
 use Rattle.model.specs.Table.{placed, overflow}
+use Rattle.model.specs.ObjectCases.{Edge, edge, edgeHopeless, edges as objects}
 use Rattle.model.specs.Judge.{Limits, Verdict, judgeStart, judgeLink, judgeClose, judgePack}
 use Rattle.model.specs.Session.{Needs, Session, started, tallyOf, SessionCall, startCall, openCall, putCall, linkCall, closeCall, dropCall, tallyCall, step, pack, Call, sessionCall, packCall, afterCall}
 
@@ -282,22 +283,13 @@ ends =
 abbrev holding : ℕ → Tally
 holding depth = record { bytes = 1; links = 0; objects = 1; depth = depth }
 
--- the close of a new object of n bytes with these fields
-abbrev closing : ℕ → ℕ → List Slot → Verdict
-closing limit n ss = judgeClose true (limitsOf limit 1 n) (holding 1) n (anyHopeless n ss) 1
+-- the close of a new object
+abbrev closing : ℕ → Edge → Verdict
+closing limit e = judgeClose true (limitsOf limit 1 (e .size)) (holding 1) (e .size) (edgeHopeless e) 1
 
 -- the last two with the object limit reached
 abbrev pub edges : List Verdict
-edges =
-    closing 2 65535 (newSlot 0 2 0 ∷ [])
-    ∷ closing 2 65536 (newSlot 0 2 0 ∷ [])
-    ∷ closing 2 65537 (newSlot 0 2 0 ∷ [])
-    ∷ closing 2 65545 (newSlot 10 2 10 ∷ [])
-    ∷ closing 2 65546 (newSlot 10 2 10 ∷ [])
-    ∷ closing 2 16777215 (newSlot 0 3 0 ∷ [])
-    ∷ closing 1 0 []
-    ∷ closing 1 65536 (newSlot 0 2 0 ∷ [])
-    ∷ []
+edges = map (closing 2) objects ++ (closing 1 (edge 0 []) ∷ closing 1 (edge 65536 (newSlot 0 2 0 ∷ [])) ∷ [])
 
 -- ---- several refusals at once, of a link, of a close and of a pack: in each line those of all the lines below it apply too
 

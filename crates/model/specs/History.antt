@@ -1,7 +1,7 @@
 -- docs/RULES.md, section 8: what the arguments of the calls alone say the session holds. It is told no memory and no answer.
 use Prim.Native.Nat.{ℕ, _+_, _<_}
 use mathlib.Core.Path.{_≡_}
-use mathlib.Core.List.{List, [], _∷_, _++_, map, List·Memᴰ}
+use mathlib.Core.List.{List, [], _∷_, _++_, map}
 use mathlib.Core.Bool.{true}
 use lib.ListN.{length, replicate}
 use lib.Dec.{ltb}
@@ -9,7 +9,7 @@ use Rattle.lists.specs.Lists.{pick, total, firstThat}
 use Rattle.answer.specs.Number.{noTally}
 use Rattle.answer.specs.declared.tally.Tally.{Tally}
 use Rattle.model.specs.Object.{Slot, newSlot}
-use Rattle.model.specs.Reading.{Reading, bytes, field, readingSize, fieldCount, hopelessReading, readingAt, readObject, readings, sameReading, Shows, below, different}
+use Rattle.model.specs.Reading.{Reading, bytes, field, readingSize, fieldCount, hopelessReading, readingAt, readObject, readings, sameReading, Shows, Lengthened}
 use Rattle.model.specs.Judge.{Limits, Verdict, accepted, refused, noTallyBeside, judgeStart, judgeOpen, judgePut, judgeLink, judgeClose, judgeDrop, judgeTally}
 use Rattle.model.specs.Told.{Told, doneClose, refusal}
 use Rattle.model.specs.Session.{Needs, Session, SessionCall, startCall, openCall, putCall, linkCall, closeCall, dropCall, tallyCall, Call, sessionCall, packCall, step, PackLeft, pack, afterCall}
@@ -154,13 +154,6 @@ tell (refused why) t whenDone = refusal why t
 
 unfoldable pub expected : Needs → SessionCall → History → Told
 expected n c h = tell (judged n c h) (counts h) (doneClose (idTold c h) (counts (accept c h)))
-
--- the length of a table: that of the different readings among the root's and those below it, and that of the copies made, which are among them too
-pub record Lengthened (root : Reading) (size copies : ℕ) : Type 0 where
-  pub made : List Reading
-  pub each : (r : Reading) → List·Memᴰ r made → List·Memᴰ r (root ∷ below root)
-  pub count : length made ≡ copies
-  pub sum : size ≡ total readingSize (different (root ∷ below root)) + total readingSize made
 
 -- an accepted pack leaves a table that shows the root's reading from its first byte, as long as that
 pub record Packed (h : History) (root : ℕ) (p : PackLeft) : Type 0 where

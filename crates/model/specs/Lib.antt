@@ -14,6 +14,7 @@ pub mod Judge
 pub mod Told
 pub mod Session
 pub mod History
+pub mod ObjectCases
 pub mod Cases
 pub mod OrderCases
 pub mod SpaceCases

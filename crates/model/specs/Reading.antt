@@ -1,12 +1,12 @@
--- docs/RULES.md, 2.6 to 2.8: the reading of an object, and what it is for a table to show one.
+-- docs/RULES.md, 2.6 to 2.8 and 8.8: the reading of an object, what it is for a table to show one, and how long it then is.
 use Prim.Native.Nat.{ℕ, _+_, _≤_, _<_}
 use mathlib.Core.Path.{_≡_}
-use mathlib.Core.List.{List, [], _∷_, _++_}
+use mathlib.Core.List.{List, [], _∷_, _++_, List·Memᴰ}
 use mathlib.Core.Bool.{Bool, false, _&&_, _||_}
 use mathlib.Core.Logic.{_⊎_}
 use lib.ListN.{length, getD}
 use lib.Dec.{eqb}
-use Rattle.lists.specs.Lists.{pick, part, sameList}
+use Rattle.lists.specs.Lists.{pick, part, sameList, total}
 use Rattle.big_endian.specs.BigEndian.{readBig}
 use Rattle.model.specs.Object.{Slot, Link, Object, anyHopeless, sameSlot}
 use Rattle.model.specs.Graph.{Graph}
@@ -116,3 +116,10 @@ among r (s ∷ l) = sameReading r s || among r l
 unfoldable pub different : List Reading → List Reading
 different [] = []
 different (r ∷ l) = pick (among r l) (different l) (r ∷ different l)
+
+-- the length of a table: that of the different readings among the root's and those below it, and that of the copies made, which are among them too
+pub record Lengthened (root : Reading) (size copies : ℕ) : Type 0 where
+  pub made : List Reading
+  pub each : (r : Reading) → List·Memᴰ r made → List·Memᴰ r (root ∷ below root)
+  pub count : length made ≡ copies
+  pub sum : size ≡ total readingSize (different (root ∷ below root)) + total readingSize made
