@@ -9,16 +9,16 @@ use Rattle.answer.specs.Number.{number}
 use Rattle.answer.specs.declared.tally.Tally.{Tally}
 use Rattle.answer.specs.declared.Refusal.the-variants as Refusal
 use Rattle.big_endian.specs.BigEndian.{capacity, fits}
-use Rattle.model.specs.Bag.{count}
-use Rattle.model.specs.Object.{Link, hopelessObject}
-use Rattle.model.specs.Graph.{Graph, graphOf, reached, Ranked, Acyclic, Closed}
-use Rattle.model.specs.Distance.{In}
-use Rattle.model.specs.Table.{placeOf, offset}
+use Rattle.model_orders.specs.Bag.{count}
+use Rattle.model_orders.specs.Object.{Link, hopelessObject}
+use Rattle.model_orders.specs.Graph.{Graph, graphOf, reached, Ranked, Acyclic, Closed}
+use Rattle.model_orders.specs.Distance.{In}
+use Rattle.model_orders.specs.Table.{placeOf, offset}
 use Rattle.model.specs.Judge.{mostBytes}
-use Rattle.model.proofs.Always.{always-fits, reached-held}
-use Rattle.model.proofs.Bags.{total-bag}
-use Rattle.model.proofs.Distances.{in-kids}
-use Rattle.model.proofs.Reach.{reached-rooted, reached-low}
+use Rattle.model_orders.proofs.Always.{always-fits, reached-held}
+use Rattle.model_orders.proofs.Bags.{total-bag}
+use Rattle.model_orders.proofs.Distances.{in-kids}
+use Rattle.model_orders.proofs.Reach.{reached-rooted, reached-low}
 use Rattle.model.proofs.Refusals.{duplicate-closes}
 use Rattle.layout.specs.Words.{closedCount, limitsIn, top}
 use Rattle.layout.specs.Decode.{decode}

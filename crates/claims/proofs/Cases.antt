@@ -3,13 +3,13 @@ use mathlib.Core.Path.{_≡_, refl}
 use mathlib.Core.Bool.{true}
 use Rattle.lists.specs.Lists.{sameList, total, firstThat, over, holds, zeros}
 use Rattle.big_endian.specs.BigEndian.{bigEndian}
-use Rattle.model.specs.Object.{anyHopeless}
-use Rattle.model.specs.Bag.{one, count, without, zerosOf, lastOnce, least}
-use Rattle.model.specs.Graph.{kidsOf, waits, reachDown, reached}
-use Rattle.model.specs.Order.{orderFrom, orderBy}
-use Rattle.model.specs.Distance.{distanceAlong, relax, relaxAll, distancesBy, beyond, distance, kahnOrder, distanceOrder}
-use Rattle.model.specs.Table.{before, offset, unfitLinks, unfitFrom, filled, objectBytes, tableFrom, tableOf}
-use Rattle.model.specs.Copies.{grownKey, spaceOrder, tryOrder, resolve, arranged, tableBy}
+use Rattle.model_orders.specs.Object.{anyHopeless}
+use Rattle.model_orders.specs.Bag.{one, count, without, zerosOf, lastOnce, least}
+use Rattle.model_orders.specs.Graph.{kidsOf, waits, reachDown, reached}
+use Rattle.model_orders.specs.Order.{orderFrom, orderBy}
+use Rattle.model_orders.specs.Distance.{distanceAlong, relax, relaxAll, distancesBy, beyond, distance, kahnOrder, distanceOrder}
+use Rattle.model_orders.specs.Table.{before, offset, unfitLinks, unfitFrom, filled, objectBytes, tableFrom, tableOf}
+use Rattle.model_orders.specs.Copies.{grownKey, spaceOrder, tryOrder, resolve, arranged, tableBy}
 use Rattle.model.specs.Judge.{verdict}
 use Rattle.model.specs.Cases.{cases}
 use Rattle.layout.specs.Tables.{chain, chained, forAll}

@@ -5,14 +5,14 @@ use mathlib.Core.List.{List, [], _∷_}
 use native.Mathlib.Omega.{arith}
 use lib.ListN.{length}
 use Rattle.lists.proofs.Whole.{over-front, over-rest}
-use Rattle.model.specs.Reading.{Reading, readings}
+use Rattle.model_orders.specs.Reading.{Reading, readings}
 use Rattle.model.specs.Judge.{Verdict, accepted, refused, verdict}
 use Rattle.model.specs.Told.{Told, doneClose}
 use Rattle.model.specs.Session.{Session, SessionCall, closeCall, sessionCall, packCall, PackLeft, step, afterCall}
 use Rattle.model.specs.History.{History, historyOf, innermostReading, idOf, counts, begun, judged, accept, after, afterAll, tell, idTold, expected, AllDifferent, PackAgrees, Alike, Agrees}
 use Rattle.model.proofs.Verdicts.{refused-number}
 use Rattle.model.proofs.Closings.{Known, known-alike, known-closed, known-all}
-use Rattle.model.proofs.Twins.{distinct-id}
+use Rattle.model_orders.proofs.Twins.{distinct-id}
 use Rattle.model.proofs.Mirrors.{Mirrors, mirrors-started}
 use Rattle.model.proofs.Agreement.{call-agrees, call-mirrors}
 use Rattle.work.specs.Areas.{workNeed}

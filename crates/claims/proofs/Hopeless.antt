@@ -12,19 +12,19 @@ use Rattle.answer.specs.Number.{number}
 use Rattle.answer.specs.declared.Refusal.the-variants as Refusal
 use Rattle.big_endian.specs.BigEndian.{capacity}
 use Rattle.big_endian.proofs.Laws.{capacity-rises}
-use Rattle.model.specs.Bag.{one, count}
-use Rattle.model.specs.Object.{Link, noObject, sizeOf, hopeless, anyHopeless, slotsOf, hopelessObject, sameObject}
-use Rattle.model.specs.Graph.{Graph, reached}
-use Rattle.model.specs.Distance.{In}
-use Rattle.model.specs.Reading.{Reading, slotsIn, readLinks, Reads}
-use Rattle.model.specs.Copies.{Grown, Chosen}
+use Rattle.model_orders.specs.Bag.{one, count}
+use Rattle.model_orders.specs.Object.{Link, noObject, sizeOf, hopeless, anyHopeless, slotsOf, hopelessObject, sameObject}
+use Rattle.model_orders.specs.Graph.{Graph, reached}
+use Rattle.model_orders.specs.Distance.{In}
+use Rattle.model_orders.specs.Reading.{Reading, slotsIn, readLinks, Reads}
+use Rattle.model_orders.specs.Copies.{Grown, Chosen}
 use Rattle.model.specs.Judge.{Tells, none, this, next, closeTests}
-use Rattle.model.proofs.Bags.{Same, same, other, sameOr, total-from}
-use Rattle.model.proofs.Distances.{in-kids}
-use Rattle.model.proofs.Growths.{Base}
-use Rattle.model.proofs.Arrangements.{chosen-reads, chosen-fitting}
-use Rattle.model.proofs.Hopeless.{hopes-all, fit-hopes}
-use Rattle.model.proofs.SameReading.{object-equal}
+use Rattle.model_orders.proofs.Bags.{Same, same, other, sameOr, total-from}
+use Rattle.model_orders.proofs.Distances.{in-kids}
+use Rattle.model_orders.proofs.Growths.{Base}
+use Rattle.model_orders.proofs.Arrangements.{chosen-reads, chosen-fitting}
+use Rattle.model_orders.proofs.Hopeless.{hopes-all, fit-hopes}
+use Rattle.model_orders.proofs.SameReading.{object-equal}
 use Rattle.layout.specs.Words.{closedCount, openDepth, limitsIn, top}
 use Rattle.layout.specs.Fields.{objectOk}
 use Rattle.layout.specs.Decode.{openAt, closedTo}

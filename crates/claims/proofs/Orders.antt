@@ -10,13 +10,13 @@ use lib.Dec.{eqb}
 use Rattle.answer.specs.Number.{number}
 use Rattle.answer.specs.declared.Overflow.{Overflow}
 use Rattle.answer.specs.declared.Refusal.the-variants as Refusal
-use Rattle.model.specs.Graph.{Graph}
-use Rattle.model.specs.Table.{Outcome, placed, overflow}
-use Rattle.model.specs.Copies.{Grown, Arrangement, lengthOf, Chosen}
+use Rattle.model_orders.specs.Graph.{Graph}
+use Rattle.model_orders.specs.Table.{Outcome, placed, overflow}
+use Rattle.model_orders.specs.Copies.{Grown, Arrangement, lengthOf, Chosen}
 use Rattle.model.specs.Judge.{Verdict, accepted, refused, numberOf, Test, Tells, none, this, next, verdict, outputShort, overflows, packTests}
 use Rattle.model.specs.Told.{refusal, toldByPack}
 use Rattle.model.specs.Session.{arrangedIn}
-use Rattle.model.proofs.Arrangements.{arranged-chosen, arranged-unresolved, chosen-arranged, unresolved-arranged}
+use Rattle.model_orders.proofs.Arrangements.{arranged-chosen, arranged-unresolved, chosen-arranged, unresolved-arranged}
 use Rattle.model.proofs.Refusals.{told-exactly}
 use Rattle.layout.specs.Words.{objectLimit, linkLimit, openDepth}
 use Rattle.work.specs.Areas.{workNeed}

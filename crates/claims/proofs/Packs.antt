@@ -10,16 +10,16 @@ use Rattle.lists.specs.Lists.{over}
 use Rattle.answer.specs.Number.{number}
 use Rattle.answer.specs.declared.Refusal.{Refusal}
 use Rattle.answer.specs.declared.Packing.the-variants.{Done}
-use Rattle.model.specs.Graph.{Graph, graphOf, Ranked}
-use Rattle.model.specs.Reading.{readingAt, readings}
-use Rattle.model.specs.Table.{Outcome, placed, overflow, Fields}
-use Rattle.model.specs.Copies.{Arrangement, lengthOf, tableBy}
+use Rattle.model_orders.specs.Graph.{Graph, graphOf, Ranked}
+use Rattle.model_orders.specs.Reading.{readingAt, readings}
+use Rattle.model_orders.specs.Table.{Outcome, placed, overflow, Fields}
+use Rattle.model_orders.specs.Copies.{Arrangement, lengthOf, tableBy}
 use Rattle.model.specs.Judge.{Verdict, accepted, refused, judgePack}
 use Rattle.model.specs.Told.{donePack, refusal, toldByPack}
 use Rattle.model.specs.Session.{Session, tallyOf, PackLeft, content, arrangedIn, settlePack, pack}
-use Rattle.model.specs.Laid.{LaidOut}
-use Rattle.model.proofs.Growths.{Base, objects-base}
-use Rattle.model.proofs.Arrangements.{arranged-laid}
+use Rattle.model_orders.specs.Laid.{LaidOut}
+use Rattle.model_orders.proofs.Growths.{Base, objects-base}
+use Rattle.model_orders.proofs.Arrangements.{arranged-laid}
 use Rattle.model.proofs.Verdicts.{passes, refused-number}
 use Rattle.model.proofs.Fair.{fair, fair-verdict}
 use Rattle.layout.specs.Words.{objectLimit, linkLimit}

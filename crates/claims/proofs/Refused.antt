@@ -5,7 +5,7 @@ use mathlib.Core.List.{List, [], _∷_}
 use native.Mathlib.Omega.{arith}
 use lib.ListN.{getD, replicate}
 use Rattle.lists.specs.Lists.{over, holds, zeros, total}
-use Rattle.model.specs.Reading.{bytesOf, fieldCount, readLinks, readingsFrom, readings}
+use Rattle.model_orders.specs.Reading.{bytesOf, fieldCount, readLinks, readingsFrom, readings}
 use Rattle.model.specs.Judge.{Limits, verdict}
 use Rattle.model.specs.History.{History, historyOf, innermostReading, begun, putOn, judged, accept, after, afterAll}
 use Rattle.layout.specs.Tables.{chain, chained, forAll}

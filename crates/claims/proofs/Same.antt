@@ -9,16 +9,16 @@ use lib.ListN.{length, take, length-map}
 use Rattle.lists.proofs.Whole.{over-front}
 use Rattle.answer.specs.declared.tally.Tally.{Tally}
 use Rattle.answer.specs.declared.Overflow.{Overflow}
-use Rattle.model.specs.Graph.{graphOf}
-use Rattle.model.specs.Table.{placed, overflow}
-use Rattle.model.specs.Copies.{Arrangement, lengthOf}
-use Rattle.model.specs.Reading.{Reading, readingAt, readings}
+use Rattle.model_orders.specs.Graph.{graphOf}
+use Rattle.model_orders.specs.Table.{placed, overflow}
+use Rattle.model_orders.specs.Copies.{Arrangement, lengthOf}
+use Rattle.model_orders.specs.Reading.{Reading, readingAt, readings}
 use Rattle.model.specs.Judge.{Limits, verdict}
 use Rattle.model.specs.Told.{Told}
 use Rattle.model.specs.Session.{Session, content, arrangedIn}
 use Rattle.model.specs.History.{History, AllDifferent}
-use Rattle.model.proofs.Arrangements.{arranged-unresolved}
-use Rattle.model.proofs.Twins.{readings-count}
+use Rattle.model_orders.proofs.Arrangements.{arranged-unresolved}
+use Rattle.model_orders.proofs.Twins.{readings-count}
 use Rattle.model_renaming.specs.Renaming.{SameEnd, tables, overflows, Different, ReadAlike}
 use Rattle.model_renaming.proofs.Renaming.{all2-length}
 use Rattle.model_renaming.proofs.SameReadings.{read-same}

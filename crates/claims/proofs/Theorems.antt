@@ -11,8 +11,8 @@ use Rattle.lists.specs.Lists.{Exactly}
 use Rattle.answer.specs.Number.{number}
 use Rattle.answer.specs.declared.tally.Tally.{Tally}
 use Rattle.answer.specs.declared.Refusal.the-variants as Refusal
-use Rattle.model.specs.Object.{Slot, slotOk, newSlot}
-use Rattle.model.specs.Reading.{Reading, readingSize}
+use Rattle.model_orders.specs.Object.{Slot, slotOk, newSlot}
+use Rattle.model_orders.specs.Reading.{Reading, readingSize}
 use Rattle.model.specs.Judge.{Verdict, accepted, refused, numberOf, Test, Tells, none, this, next, verdict, putTests, linkTests}
 use Rattle.model.specs.Told.{Told, doneClose}
 use Rattle.model.specs.History.{History, innermostReading, sum, counts, judged, expected, tell, AllDifferent, Alike}

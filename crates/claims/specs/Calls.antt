@@ -7,8 +7,8 @@ use lib.ListN.{length, take, drop, replicate}
 use lib.Dec.{eqb}
 use Rattle.lists.specs.Lists.{Exactly}
 use Rattle.answer.specs.declared.Refusal.{Refusal}
-use Rattle.model.specs.Object.{hopelessObject}
-use Rattle.model.specs.Copies.{lengthOf}
+use Rattle.model_orders.specs.Object.{hopelessObject}
+use Rattle.model_orders.specs.Copies.{lengthOf}
 use Rattle.model.specs.Session.{arrangedIn}
 use Rattle.model.specs.Judge.{Test, Tells, inTable, startTests, openTests, putTests, linkTests, closeTests, dropTests, tallyTests, packTests}
 use Rattle.model.specs.Told.{refusal}

@@ -8,7 +8,7 @@ use Rattle.lists.specs.Lists.{pick}
 use Rattle.answer.specs.Number.{noTally}
 use Rattle.model.specs.Judge.{noTallyBeside}
 use Rattle.model.specs.Told.{done}
-use Rattle.model.specs.Reading.{Reading, readingAt, Shows, Lengthened}
+use Rattle.model_orders.specs.Reading.{Reading, readingAt, Shows, Lengthened}
 use Rattle.model.specs.Session.{Needs, Call, sessionCall, packCall}
 use Rattle.model.specs.History.{History, historyOf, innermostReading, counts, expected, afterAll, NoStart, AllDifferent, Alike}
 use Rattle.layout.specs.Sound.{sound}

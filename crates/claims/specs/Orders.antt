@@ -6,12 +6,12 @@ use mathlib.Core.Bool.{true}
 use lib.ListN.{length}
 use Rattle.lists.specs.Lists.{over}
 use Rattle.answer.specs.declared.Overflow.{Overflow}
-use Rattle.model.specs.Graph.{Graph, graphOf}
-use Rattle.model.specs.Reading.{readingAt, readings}
-use Rattle.model.specs.Table.{placed}
-use Rattle.model.specs.Copies.{Grown, tableBy, Chosen, Unresolved}
+use Rattle.model_orders.specs.Graph.{Graph, graphOf}
+use Rattle.model_orders.specs.Reading.{readingAt, readings}
+use Rattle.model_orders.specs.Table.{placed}
+use Rattle.model_orders.specs.Copies.{Grown, tableBy, Chosen, Unresolved}
 use Rattle.model.specs.Judge.{mostCopies}
-use Rattle.model.specs.Laid.{LaidOut}
+use Rattle.model_orders.specs.Laid.{LaidOut}
 use Rattle.model.specs.Told.{Told, donePack}
 use Rattle.model.specs.Session.{content}
 use Rattle.layout.specs.Words.{objectLimit, linkLimit, closedCount, openDepth}

@@ -6,7 +6,7 @@ use lib.ListN.{length, take}
 use Rattle.answer.specs.Number.{number}
 use Rattle.answer.specs.declared.Refusal.the-variants as Refusal
 use Rattle.model.specs.Judge.{mostCopies}
-use Rattle.model.specs.Reading.{readingAt}
+use Rattle.model_orders.specs.Reading.{readingAt}
 use Rattle.model.specs.History.{History}
 use Rattle.steps.specs.Runs.{LentLeft}
 use Rattle.claims.specs.Demand.{needs}

@@ -12,7 +12,7 @@ use Rattle.lists.specs.Lists.{pick, part}
 use Rattle.lists.proofs.Runs.{length-part}
 use Rattle.answer.specs.Number.{number}
 use Rattle.model.specs.Judge.{Verdict, accepted, refused}
-use Rattle.model.specs.Reading.{Reading, bytes, bytesOf, readingSize}
+use Rattle.model_orders.specs.Reading.{Reading, bytes, bytesOf, readingSize}
 use Rattle.model.specs.Session.{Needs, sessionCall, putCall, linkCall, closeCall}
 use Rattle.model.specs.History.{History, innermostReading, idOf, judged, accept, after, afterAll, Starts, NoStart, idTold, expected, putOn, linkOn}
 use Rattle.model.proofs.Verdicts.{refused-number}

@@ -13,8 +13,8 @@ use Rattle.lists.specs.Lists.{pick, part}
 use Rattle.lists.proofs.Parts.{getD-part}
 use Rattle.lists.proofs.Runs.{length-part}
 use Rattle.big_endian.specs.BigEndian.{readFrom as readBytes}
-use Rattle.model.specs.Object.{newSlot}
-use Rattle.model.specs.Reading.{Reading, bytesOf, readingSize, Outside, Own, target, FieldsShow, Apart, Wide}
+use Rattle.model_orders.specs.Object.{newSlot}
+use Rattle.model_orders.specs.Reading.{Reading, bytesOf, readingSize, Outside, Own, target, FieldsShow, Apart, Wide}
 use Rattle.gsub.specs.declared.Kind.{Kind}
 use Rattle.gsub.specs.declared.Rule.{Rule}
 use Rattle.gsub.specs.declared.Rule.the-variants.{Any, Only, To, ToOrNull}

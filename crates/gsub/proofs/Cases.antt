@@ -3,9 +3,9 @@ use mathlib.Core.Path.{_≡_, refl}
 use mathlib.Core.Bool.{true}
 use Rattle.lists.specs.Lists.{sameList, holds, total, firstThat}
 use Rattle.big_endian.specs.BigEndian.{readFrom}
-use Rattle.model.specs.Object.{anyHopeless}
+use Rattle.model_orders.specs.Object.{anyHopeless}
 use Rattle.model.specs.Judge.{verdict}
-use Rattle.model.specs.Reading.{bytesOf, fieldCount, slotsIn, sameReading}
+use Rattle.model_orders.specs.Reading.{bytesOf, fieldCount, slotsIn, sameReading}
 use Rattle.model.specs.History.{putOn, fieldOn, judged, accept, after, idTold, expected}
 use Rattle.steps.specs.Runs.{asCall}
 use Rattle.gsub.specs.Tables.{fieldsOf, shape, times, size, often, laid}

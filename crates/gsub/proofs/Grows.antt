@@ -4,8 +4,8 @@ use Prim.Native.Nat.{ℕ, _+_}
 use mathlib.Core.List.{List, [], _++_, append-nil}
 use native.Mathlib.Omega.{arith}
 use lib.ListN.{length, replicate, length-append, length-replicate}
-use Rattle.model.specs.Object.{Slot, newSlot}
-use Rattle.model.specs.Reading.{Reading, bytes, field, bytesOf, readingSize}
+use Rattle.model_orders.specs.Object.{Slot, newSlot}
+use Rattle.model_orders.specs.Reading.{Reading, bytes, field, bytesOf, readingSize}
 use Rattle.model.specs.History.{putOn, fieldOn, linkOn}
 
 -- its fields, and then what g makes of its bytes

@@ -15,7 +15,7 @@ use Rattle.lists.proofs.Parts.{getD-part}
 use Rattle.lists.proofs.Runs.{length-part, part-first}
 use Rattle.lists.proofs.Same.{and-left, and-right}
 use Rattle.big_endian.specs.BigEndian.{readFrom}
-use Rattle.model.specs.Reading.{Reading, field}
+use Rattle.model_orders.specs.Reading.{Reading, field}
 use Rattle.gsub.specs.declared.Kind.{Kind}
 use Rattle.gsub.specs.declared.Rule.{Rule}
 use Rattle.gsub.specs.declared.Rule.the-variants.{Any, Only, To, ToOrNull}

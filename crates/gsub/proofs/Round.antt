@@ -3,7 +3,7 @@ use mathlib.Core.Path.{_≡_, sym, ap, _∙_}
 use Prim.Native.Nat.{ℕ}
 use mathlib.Core.List.{List, [], _∷_}
 use native.Mathlib.Omega.{arith}
-use Rattle.model.specs.Reading.{readingAt, Apart, Wide, Shows}
+use Rattle.model_orders.specs.Reading.{readingAt, Apart, Wide, Shows}
 use Rattle.model.specs.Session.{Needs}
 use Rattle.model.specs.History.{History}
 use Rattle.model.proofs.Closings.{known-equal}

@@ -12,8 +12,8 @@ use Rattle.lists.specs.Lists.{pick, part}
 use Rattle.lists.proofs.Same.{and-left, and-right}
 use Rattle.lists.proofs.Runs.{length-part}
 use Rattle.answer.specs.declared.tally.Tally.{Tally}
-use Rattle.model.specs.Object.{Slot, newSlot, widthOk, slotOk}
-use Rattle.model.specs.Reading.{Reading, readingAt, readingSize, hopelessReading}
+use Rattle.model_orders.specs.Object.{Slot, newSlot, widthOk, slotOk}
+use Rattle.model_orders.specs.Reading.{Reading, readingAt, readingSize, hopelessReading}
 use Rattle.model.specs.Judge.{Limits, mostOpen, Verdict, accepted, refused, numberOf, Test, Tells, none, this, next, verdict, openTests, putTests, linkTests, closeTests}
 use Rattle.model.specs.Told.{doneClose}
 use Rattle.model.specs.Session.{Needs}

@@ -3,8 +3,8 @@ use Prim.Native.Nat.{ℕ, zero, suc, _+_}
 use mathlib.Core.List.{List, [], _∷_, _++_}
 use lib.ListN.{replicate}
 use Rattle.lists.specs.Lists.{part}
-use Rattle.model.specs.Object.{newSlot}
-use Rattle.model.specs.Reading.{Reading, bytes, field}
+use Rattle.model_orders.specs.Object.{newSlot}
+use Rattle.model_orders.specs.Reading.{Reading, bytes, field}
 use Rattle.gsub.specs.declared.Kind.{Kind}
 use Rattle.gsub.specs.declared.Kind.the-variants.{Header}
 use Rattle.gsub.specs.declared.Field.{Field}

@@ -5,7 +5,7 @@ use mathlib.Core.Bool.{_&&_}
 use lib.Dec.{eqb, leb, ltb}
 use Rattle.lists.specs.Lists.{pick}
 use Rattle.big_endian.specs.BigEndian.{capacity}
-use Rattle.model.specs.Reading.{Reading, bytes, field, bytesOf}
+use Rattle.model_orders.specs.Reading.{Reading, bytes, field, bytesOf}
 use Rattle.gsub.specs.Tables.{wordAt}
 
 -- a glyph's coverage index

@@ -5,12 +5,12 @@ use mathlib.Core.List.{List}
 use native.Mathlib.Omega.{arith}
 use lib.ListN.{length, take}
 use Rattle.lists.proofs.Whole.{over-front}
-use Rattle.model.specs.Reading.{Reading, readingAt, readings, Shows, Wide, Apart}
+use Rattle.model_orders.specs.Reading.{Reading, readingAt, readings, Shows, Wide, Apart}
 use Rattle.model.specs.Judge.{Limits}
 use Rattle.model.specs.History.{History, historyOf, begun}
 use Rattle.model.specs.Told.{Told}
 use Rattle.model.proofs.Closings.{known-equal}
-use Rattle.model.proofs.Arrangements.{chosen-reads}
+use Rattle.model_orders.proofs.Arrangements.{chosen-reads}
 use Rattle.layout.specs.Decode.{decode}
 use Rattle.steps.specs.Steps.{limitsOf}
 use Rattle.steps.specs.Runs.{Stores, pack, lentStep, needsWith}

@@ -8,7 +8,7 @@ use lib.ListN.{length, drop, drop-of-length-le}
 use Rattle.lists.specs.Lists.{part, holds, zeros}
 use Rattle.lists.proofs.Holds.{holds-at}
 use Rattle.lists.proofs.Same.{and-left, and-right}
-use Rattle.model.specs.Object.{Link, slotOk, slotsOf}
+use Rattle.model_orders.specs.Object.{Link, slotOk, slotsOf}
 use Rattle.layout.specs.Words.{linkWords, linksOf, linkAt}
 use Rattle.layout.specs.Fields.{fieldTests, fieldsOk, slotsOk}
 use Rattle.layout.proofs.Links.{linksOf-next}

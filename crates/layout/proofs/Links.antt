@@ -9,7 +9,7 @@ use lib.Seq.{sets-eq}
 use Rattle.lists.specs.Lists.{part, over}
 use Rattle.lists.proofs.Runs.{drop-first}
 use Rattle.lists.proofs.Parts.{part-part}
-use Rattle.model.specs.Object.{Link}
+use Rattle.model_orders.specs.Object.{Link}
 use Rattle.layout.specs.Words.{linkWords, linksAt, linkLimit, linkArea, wordsOf, linksOf, linkAt}
 
 pub linksOf-next : (ws : List ℕ) (i : ℕ) → i + linkWords ≤ length ws → linksOf (drop i ws) ≡ linkAt ws i ∷ linksOf (drop (i + linkWords) ws)

@@ -2,7 +2,7 @@
 use Prim.Native.Nat.{ℕ, zero, suc, _*_}
 use mathlib.Core.List.{List, [], _∷_, _++_}
 use Rattle.lists.specs.Lists.{part}
-use Rattle.model.specs.Object.{Link, Object}
+use Rattle.model_orders.specs.Object.{Link, Object}
 use Rattle.model.specs.Session.{Session}
 use Rattle.layout.specs.Words.{openDepth, closedCount, linkWords, linkArea, linksOf, limitsIn}
 use Rattle.layout.specs.Spans.{openSpan, closedSpan}

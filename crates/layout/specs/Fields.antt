@@ -5,7 +5,7 @@ use mathlib.Core.Bool.{Bool, true, not, _&&_}
 use lib.ListN.{length}
 use lib.Dec.{leb, ltb}
 use Rattle.lists.specs.Lists.{part, holds, zeros}
-use Rattle.model.specs.Object.{Slot, Link, Object, slotOk, hopelessObject}
+use Rattle.model_orders.specs.Object.{Slot, Link, Object, slotOk, hopelessObject}
 
 -- a field at or past `from`, of a width and an inner start that it may have, inside the bytes, to a child below `kids`, its bytes zero
 unfoldable pub fieldTests : ℕ → ℕ → List ℕ → Link → List Bool

@@ -2,7 +2,7 @@
 use Prim.Native.Nat.{ℕ, _^_, _<_}
 use mathlib.Core.Path.{_≡_}
 use mathlib.Core.List.{List}
-use Rattle.model.specs.Object.{Link}
+use Rattle.model_orders.specs.Object.{Link}
 use Rattle.layout.specs.Words.{linkOfWords, linkAt}
 use Rattle.layout.specs.declared.link.Link as read
 

@@ -5,8 +5,8 @@ use mathlib.Core.List.{List}
 use native.Mathlib.Omega.{arith}
 use lib.ListN.{getD}
 use Rattle.lists.specs.Lists.{part}
-unfoldable pub use Rattle.model.specs.Words.{linksOf}
-pub use Rattle.model.specs.Words.{linkWords, wordsOf, linkOfWords, linkAt}
+unfoldable pub use Rattle.model_orders.specs.Words.{linksOf}
+pub use Rattle.model_orders.specs.Words.{linkWords, wordsOf, linkOfWords, linkAt}
 use Rattle.model.specs.Judge.{mostOpen, mostNeed, Limits}
 
 -- ---- the header

@@ -1,6 +1,6 @@
 // Words of the record store, and how many it needs.
 use crate::limits::MOST_OPEN;
-use model::LINK_WORDS;
+use model_orders::LINK_WORDS;
 ghost use mathlib.Core.Path.{_≡_};
 ghost use Prim.Native.Nat.{_<_, _^_};
 ghost use lib.ListN.{length, getD, set};

@@ -8,22 +8,22 @@ use lib.ListN.{length}
 use borrow.Author.Tests.{leb-false, not-false}
 use Rattle.lists.specs.Lists.{pick}
 use Rattle.answer.specs.Number.{number, noTally}
-use Rattle.model.specs.Bag.{count}
-use Rattle.model.specs.Object.{noObject, sizeOf, withBytes, slotOk, newSlot, withLink, hopelessObject}
-use Rattle.model.specs.Graph.{Graph, graphOf, reached}
-use Rattle.model.specs.Table.{Outcome, placed, overflow}
-use Rattle.model.specs.Copies.{Arrangement, lengthOf, tableBy}
-use Rattle.model.specs.Reading.{Reading, readingAt, readings}
+use Rattle.model_orders.specs.Bag.{count}
+use Rattle.model_orders.specs.Object.{noObject, sizeOf, withBytes, slotOk, newSlot, withLink, hopelessObject}
+use Rattle.model_orders.specs.Graph.{Graph, graphOf, reached}
+use Rattle.model_orders.specs.Table.{Outcome, placed, overflow}
+use Rattle.model_orders.specs.Copies.{Arrangement, lengthOf, tableBy}
+use Rattle.model_orders.specs.Reading.{Reading, readingAt, readings}
 use Rattle.model.specs.Judge.{Limits, Verdict, accepted, refused, noTallyBeside, judgeStart, judgeOpen, judgePut, judgeLink, judgeClose, judgeDrop, judgeTally, judgePack}
 use Rattle.model.specs.Told.{doneClose, donePack, refusal}
 use Rattle.model.specs.Session.{Needs, Session, tallyOf, started, withOpens, innermost, outer, onInnermost, twin, sealed, SessionCall, startCall, openCall, putCall, linkCall, closeCall, dropCall, tallyCall, Left, settleCall, step, PackLeft, content, arrangedIn, settlePack, pack, Call, sessionCall, packCall, afterCall}
 use Rattle.model.specs.History.{History, counts, begun, judged, accept, next, after, idTold, tell, expected, Packed, PackAgrees, Agrees, AllAgree}
-use Rattle.model.proofs.Reach.{reached-low}
-use Rattle.model.proofs.Lengths.{lengthened}
-use Rattle.model.proofs.Growths.{Base, objects-base}
-use Rattle.model.proofs.Arrangements.{arranged-reads, arranged-laid}
-use Rattle.model.proofs.Twins.{distinct-id, readings-count}
-use Rattle.model.proofs.Slots.{slot-start}
+use Rattle.model_orders.proofs.Reach.{reached-low}
+use Rattle.model_orders.proofs.Lengths.{lengthened}
+use Rattle.model_orders.proofs.Growths.{Base, objects-base}
+use Rattle.model_orders.proofs.Arrangements.{arranged-reads, arranged-laid}
+use Rattle.model_orders.proofs.Twins.{distinct-id, readings-count}
+use Rattle.model_orders.proofs.Slots.{slot-start}
 use Rattle.model.proofs.Verdicts.{passes, beside-number, refused-number}
 use Rattle.model.proofs.Mirrors.{Mirrors, mirrors-started, mirrors-limits, mirrors-counts, mirrors-size, mirrors-hopeless, mirrors-acyclic, mirrors-fields, mirrors-twin, mirrors-open, mirrors-put, mirrors-link, mirrors-close, mirrors-drop}
 

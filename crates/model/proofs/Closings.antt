@@ -10,11 +10,11 @@ use lib.Dec.{ltb}
 use Rattle.lists.specs.Lists.{pick, firstThat}
 use Rattle.lists.proofs.Elements.{first-passes, first-more}
 use Rattle.lists.proofs.Frames.{first-most}
-use Rattle.model.specs.Reading.{Reading, bytes, sameReading, readingAt}
+use Rattle.model_orders.specs.Reading.{Reading, bytes, sameReading, readingAt}
 use Rattle.model.specs.Judge.{Verdict, accepted, refused}
 use Rattle.model.specs.Session.{Needs, SessionCall, startCall, openCall, putCall, linkCall, closeCall, dropCall, tallyCall, Call, sessionCall, packCall}
 use Rattle.model.specs.History.{History, innermostReading, idOf, closes, judged, accept, next, after, afterAll, Starts, NoStart, Alike}
-use Rattle.model.proofs.SameReading.{reading-equal, reading-self}
+use Rattle.model_orders.proofs.SameReading.{reading-equal, reading-self}
 
 -- ---- ids stay
 

@@ -7,15 +7,15 @@ use native.Mathlib.Omega.{arith}
 use lib.ListN.{length, length-append, length-replicate}
 use Rattle.lists.specs.Lists.{total}
 use Rattle.lists.proofs.Elements.{total-append}
-use Rattle.model.specs.Bag.{one, count}
-use Rattle.model.specs.Object.{Link, Object, noObject, sizeOf, linkCount, withBytes, newLink, withLink, slotsOf, hopelessObject}
-use Rattle.model.specs.Graph.{kidsOf}
-use Rattle.model.specs.Table.{SlotIn, FieldsIn}
-use Rattle.model.specs.Reading.{Reading, readingSize, fieldCount, slotsIn, hopelessReading, readLinks, readingAt, readObject, readingsFrom, readings}
+use Rattle.model_orders.specs.Bag.{one, count}
+use Rattle.model_orders.specs.Object.{Link, Object, noObject, sizeOf, linkCount, withBytes, newLink, withLink, slotsOf, hopelessObject}
+use Rattle.model_orders.specs.Graph.{kidsOf}
+use Rattle.model_orders.specs.Table.{SlotIn, FieldsIn}
+use Rattle.model_orders.specs.Reading.{Reading, readingSize, fieldCount, slotsIn, hopelessReading, readLinks, readingAt, readObject, readingsFrom, readings}
 use Rattle.model.specs.History.{putOn, fieldOn, linkOn}
-use Rattle.model.proofs.Bags.{Same, same, other, sameOr}
-use Rattle.model.proofs.Filled.{slot-room}
-use Rattle.model.proofs.Tables.{read-bytes}
+use Rattle.model_orders.proofs.Bags.{Same, same, other, sameOr}
+use Rattle.model_orders.proofs.Filled.{slot-room}
+use Rattle.model_orders.proofs.Tables.{read-bytes}
 
 -- ---- readings
 

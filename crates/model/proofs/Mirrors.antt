@@ -9,16 +9,16 @@ use lib.Dec.{ltb}
 use borrow.Author.Tests.{ltb-false}
 use Rattle.lists.specs.Lists.{pick, firstThat}
 use Rattle.lists.proofs.Elements.{Each, none, more, each-then, map-each, at-snoc, total-map}
-use Rattle.model.specs.Object.{Object, noObject, objectAt, sizeOf, linkCount, withBytes, withLink, hopelessObject}
-use Rattle.model.specs.Graph.{graphOf, Ranked, Acyclic}
-use Rattle.model.specs.Table.{Fields}
-use Rattle.model.specs.Reading.{Reading, readingSize, fieldCount, hopelessReading, sameReading, readLinks, readObject, readingsFrom, readings}
+use Rattle.model_orders.specs.Object.{Object, noObject, objectAt, sizeOf, linkCount, withBytes, withLink, hopelessObject}
+use Rattle.model_orders.specs.Graph.{graphOf, Ranked, Acyclic}
+use Rattle.model_orders.specs.Table.{Fields}
+use Rattle.model_orders.specs.Reading.{Reading, readingSize, fieldCount, hopelessReading, sameReading, readLinks, readObject, readingsFrom, readings}
 use Rattle.model.specs.Judge.{Limits}
 use Rattle.model.specs.Session.{Session, tallyOf, started, withOpens, innermost, outer, onInnermost, twin, sealed, SessionCall, openCall, putCall, linkCall, closeCall, dropCall}
 use Rattle.model.specs.History.{History, historyOf, counts, begun, keepOpens, innermostReading, others, idOf, accept}
-use Rattle.model.proofs.Readings.{read-more, readings-snoc}
+use Rattle.model_orders.proofs.Readings.{read-more, readings-snoc}
+use Rattle.model_orders.proofs.Twins.{Distinct, distinct-snoc, readings-count, twin-id}
 use Rattle.model.proofs.Growth.{read-size, read-count, read-hopeless, read-put, read-link, total-readings, Formed, formed-none, formed-more, formed-put, formed-link}
-use Rattle.model.proofs.Twins.{Distinct, distinct-snoc, readings-count, twin-id}
 
 -- ---- the counts of what a session's objects read as
 

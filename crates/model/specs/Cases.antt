@@ -6,9 +6,9 @@ use lib.Dec.{eqb}
 use Rattle.lists.specs.Lists.{sameList}
 use Rattle.answer.specs.Number.{noOverflow}
 use Rattle.answer.specs.declared.tally.Tally.{Tally}
-use Rattle.model.specs.Object.{newSlot}
-use Rattle.model.specs.Table.{placed, overflow}
-use Rattle.model.specs.ObjectCases.{Edge, edge, edgeHopeless, edges as objects}
+use Rattle.model_orders.specs.Object.{newSlot}
+use Rattle.model_orders.specs.Table.{placed, overflow}
+use Rattle.model_orders.specs.ObjectCases.{Edge, edge, edgeHopeless, edges as objects}
 use Rattle.model.specs.Judge.{Limits, Verdict, judgeStart, judgeLink, judgeClose, judgePack}
 use Rattle.model.specs.Session.{Needs, Session, started, tallyOf, SessionCall, startCall, openCall, putCall, linkCall, closeCall, dropCall, tallyCall, step, pack, Call, sessionCall, packCall, afterCall}
 

@@ -8,8 +8,8 @@ use lib.Dec.{ltb}
 use Rattle.lists.specs.Lists.{pick, total, firstThat}
 use Rattle.answer.specs.Number.{noTally}
 use Rattle.answer.specs.declared.tally.Tally.{Tally}
-use Rattle.model.specs.Object.{Slot, newSlot}
-use Rattle.model.specs.Reading.{Reading, bytes, field, readingSize, fieldCount, hopelessReading, readingAt, readObject, readings, sameReading, Shows, Lengthened}
+use Rattle.model_orders.specs.Object.{Slot, newSlot}
+use Rattle.model_orders.specs.Reading.{Reading, bytes, field, readingSize, fieldCount, hopelessReading, readingAt, readObject, readings, sameReading, Shows, Lengthened}
 use Rattle.model.specs.Judge.{Limits, Verdict, accepted, refused, noTallyBeside, judgeStart, judgeOpen, judgePut, judgeLink, judgeClose, judgeDrop, judgeTally}
 use Rattle.model.specs.Told.{Told, doneClose, refusal}
 use Rattle.model.specs.Session.{Needs, Session, SessionCall, startCall, openCall, putCall, linkCall, closeCall, dropCall, tallyCall, Call, sessionCall, packCall, step, PackLeft, pack, afterCall}

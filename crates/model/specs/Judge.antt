@@ -9,8 +9,8 @@ use Rattle.answer.specs.Number.{number}
 use Rattle.answer.specs.declared.tally.Tally.{Tally}
 use Rattle.answer.specs.declared.Refusal.{Refusal}
 use Rattle.answer.specs.declared.Refusal.the-variants as Refusal
-use Rattle.model.specs.Object.{Slot, slotOk}
-use Rattle.model.specs.Table.{Outcome, placed, overflow}
+use Rattle.model_orders.specs.Object.{Slot, slotOk}
+use Rattle.model_orders.specs.Table.{Outcome, placed, overflow}
 
 -- ---- ranges
 

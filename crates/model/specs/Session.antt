@@ -6,9 +6,9 @@ use lib.ListN.{length}
 use lib.Dec.{ltb}
 use Rattle.lists.specs.Lists.{pick, total, firstThat}
 use Rattle.answer.specs.declared.tally.Tally.{Tally}
-use Rattle.model.specs.Object.{Object, noObject, objectAt, sizeOf, linkCount, withBytes, newSlot, withLink, hopelessObject, sameObject}
-use Rattle.model.specs.Graph.{graphOf}
-use Rattle.model.specs.Copies.{Arrangement, arranged, lengthOf, tableBy}
+use Rattle.model_orders.specs.Object.{Object, noObject, objectAt, sizeOf, linkCount, withBytes, newSlot, withLink, hopelessObject, sameObject}
+use Rattle.model_orders.specs.Graph.{graphOf}
+use Rattle.model_orders.specs.Copies.{Arrangement, arranged, lengthOf, tableBy}
 use Rattle.model.specs.Judge.{Limits, Verdict, accepted, refused, judgeStart, judgeOpen, judgePut, judgeLink, judgeClose, judgeDrop, judgeTally, judgePack}
 use Rattle.model.specs.Told.{Told, done, doneClose, donePack, refusal}
 

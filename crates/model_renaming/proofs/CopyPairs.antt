@@ -7,14 +7,14 @@ use native.Mathlib.Omega.{arith}
 use lib.Dec.{eqb}
 use borrow.Author.Tests.{eq-eqb, ne-eqb}
 use Rattle.lists.specs.Lists.{pick}
-use Rattle.model.specs.Bag.{count}
-use Rattle.model.specs.Object.{Slot, Link}
-use Rattle.model.specs.Graph.{Graph}
-use Rattle.model.proofs.Bags.{Same, same, other, sameOr, one-eq}
-use Rattle.model.specs.Copies.{leadTo, redirect, childAt, copied, beside}
-use Rattle.model.proofs.Beside.{beside-count}
-use Rattle.model.proofs.Redirects.{Field, this, later}
-use Rattle.model.proofs.Copies.{Copyable, Node, parent, copy, old, nodeOr}
+use Rattle.model_orders.specs.Bag.{count}
+use Rattle.model_orders.specs.Object.{Slot, Link}
+use Rattle.model_orders.specs.Graph.{Graph}
+use Rattle.model_orders.proofs.Bags.{Same, same, other, sameOr, one-eq}
+use Rattle.model_orders.specs.Copies.{leadTo, redirect, childAt, copied, beside}
+use Rattle.model_orders.proofs.Beside.{beside-count}
+use Rattle.model_orders.proofs.Redirects.{Field, this, later}
+use Rattle.model_orders.proofs.Copies.{Copyable, Node, parent, copy, old, nodeOr}
 use Rattle.model_renaming.specs.Renaming.{SameLinks}
 use Rattle.model_renaming.proofs.Renaming.{id-rel}
 use Rattle.model_renaming.proofs.Pairs.{Paired, Turned, turn-renames}

@@ -9,16 +9,16 @@ use lib.Dec.{eqb, ltb}
 use borrow.Author.Tests.{ne-eqb, eq-eqb}
 use Rattle.lists.specs.Lists.{pick}
 use Rattle.answer.specs.declared.Overflow.{Overflow}
-use Rattle.model.specs.Bag.{count}
-use Rattle.model.specs.Graph.{Graph}
-use Rattle.model.specs.Table.{placed}
-use Rattle.model.specs.Space.{spaceWeight}
-use Rattle.model.specs.Copies.{Grown, childOf, grow, grownKey, spaceOrder, misfits, fitting, failing, shared, resolve, contentIn, tableBy}
-use Rattle.model.proofs.Redirects.{Field}
-use Rattle.model.proofs.Copies.{Copyable}
-use Rattle.model.proofs.Reports.{unfit-head}
-use Rattle.model.proofs.Growths.{Grew, Curable, copyable, new-out, child-here, grow-grew, along-least}
-use Rattle.model.proofs.Resolving.{resolve-placed, resolve-next, resolve-alone, resolve-spent, report-curable}
+use Rattle.model_orders.specs.Bag.{count}
+use Rattle.model_orders.specs.Graph.{Graph}
+use Rattle.model_orders.specs.Table.{placed}
+use Rattle.model_orders.specs.Space.{spaceWeight}
+use Rattle.model_orders.specs.Copies.{Grown, childOf, grow, grownKey, spaceOrder, misfits, fitting, failing, shared, resolve, contentIn, tableBy}
+use Rattle.model_orders.proofs.Redirects.{Field}
+use Rattle.model_orders.proofs.Copies.{Copyable}
+use Rattle.model_orders.proofs.Reports.{unfit-head}
+use Rattle.model_orders.proofs.Growths.{Grew, Curable, copyable, new-out, child-here, grow-grew, along-least}
+use Rattle.model_orders.proofs.Resolving.{resolve-placed, resolve-next, resolve-alone, resolve-spent, report-curable}
 use Rattle.model_renaming.specs.Renaming.{All2, cons, SameField, SameEnd, tables, overflows}
 use Rattle.model_renaming.proofs.Renaming.{Unfits, unfit-rel, table-rel}
 use Rattle.model_renaming.proofs.Pairs.{Paired, waits-paired, order-paired, least-paired}

@@ -4,12 +4,12 @@ use Prim.Native.Nat.{ℕ, _<_}
 use mathlib.Core.List.{List}
 use native.Mathlib.Omega.{arith}
 use lib.ListN.{length}
-use Rattle.model.specs.Bag.{count}
-use Rattle.model.specs.Object.{Link}
-use Rattle.model.specs.Graph.{Graph, kids, waits, Once, Rooted}
-use Rattle.model.specs.Order.{orderOf}
-use Rattle.model.specs.Distance.{Path, Least, weight}
-use Rattle.model.proofs.Orders.{rooted-inv}
+use Rattle.model_orders.specs.Bag.{count}
+use Rattle.model_orders.specs.Object.{Link}
+use Rattle.model_orders.specs.Graph.{Graph, kids, waits, Once, Rooted}
+use Rattle.model_orders.specs.Order.{orderOf}
+use Rattle.model_orders.specs.Distance.{Path, Least, weight}
+use Rattle.model_orders.proofs.Orders.{rooted-inv}
 use Rattle.model_renaming.specs.Renaming.{All2, nil, cons, SameLinks, Renames}
 use Rattle.model_renaming.proofs.Renaming.{same-kids, id-rel, count-rel, order-rel, path-rel, total-rel}
 

@@ -2,12 +2,12 @@
 use Prim.Native.Nat.{ℕ, _<_}
 use mathlib.Core.List.{List}
 use native.Mathlib.Omega.{arith}
-use Rattle.model.specs.Bag.{count}
-use Rattle.model.specs.Object.{Link}
-use Rattle.model.specs.Graph.{Graph, kidsOf, reached, Acyclic, Closed, Rooted}
-use Rattle.model.proofs.Bags.{one-same}
-use Rattle.model.proofs.Reach.{reached-rooted}
-use Rattle.model.proofs.Distances.{reached-path, path-reached}
+use Rattle.model_orders.specs.Bag.{count}
+use Rattle.model_orders.specs.Object.{Link}
+use Rattle.model_orders.specs.Graph.{Graph, kidsOf, reached, Acyclic, Closed, Rooted}
+use Rattle.model_orders.proofs.Bags.{one-same}
+use Rattle.model_orders.proofs.Reach.{reached-rooted}
+use Rattle.model_orders.proofs.Distances.{reached-path, path-reached}
 use Rattle.model_renaming.specs.Renaming.{SameLinks, Renames}
 use Rattle.model_renaming.proofs.Renaming.{path-rel}
 use Rattle.model_renaming.proofs.Pairs.{Paired, Turned, turn-renames}

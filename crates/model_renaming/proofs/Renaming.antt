@@ -10,15 +10,15 @@ use borrow.Author.Tests.{eq-eqb, eqb-true}
 use Rattle.lists.specs.Lists.{pick, total}
 use Rattle.answer.specs.declared.Overflow.{Overflow}
 use Rattle.big_endian.specs.BigEndian.{fits, capacity}
-use Rattle.model.specs.Bag.{one, count, without, zerosOf, lastOnce, leads, least}
-use Rattle.model.specs.Object.{Slot, Link}
-use Rattle.model.specs.Graph.{Graph, kids, kidsOf, waits, Once}
-use Rattle.model.specs.Order.{orderFrom}
-use Rattle.model.specs.Distance.{In, here, there, Path, start, along, weight}
-use Rattle.model.specs.Table.{before, placeOf, offset, unfitLinks, unfitFrom, unfit, filled, objectBytes, tableFrom, tableOf}
-use Rattle.model.proofs.Bags.{Same, same, other, sameOr, one-same, count-here, count-without, length-without, total-without, least-in}
-use Rattle.model.proofs.Waits.{waits-without}
-use Rattle.model.proofs.Orders.{Inv, next-free, next-inv, length-left}
+use Rattle.model_orders.specs.Bag.{one, count, without, zerosOf, lastOnce, leads, least}
+use Rattle.model_orders.specs.Object.{Slot, Link}
+use Rattle.model_orders.specs.Graph.{Graph, kids, kidsOf, waits, Once}
+use Rattle.model_orders.specs.Order.{orderFrom}
+use Rattle.model_orders.specs.Distance.{In, here, there, Path, start, along, weight}
+use Rattle.model_orders.specs.Table.{before, placeOf, offset, unfitLinks, unfitFrom, unfit, filled, objectBytes, tableFrom, tableOf}
+use Rattle.model_orders.proofs.Bags.{Same, same, other, sameOr, one-same, count-here, count-without, length-without, total-without, least-in}
+use Rattle.model_orders.proofs.Waits.{waits-without}
+use Rattle.model_orders.proofs.Orders.{Inv, next-free, next-inv, length-left}
 use Rattle.model_renaming.specs.Renaming.{All2, nil, cons, SameLinks, Renames, SameField}
 
 -- overflows paired one by one

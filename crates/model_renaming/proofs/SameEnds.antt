@@ -3,15 +3,15 @@ use mathlib.Core.Path.{_≡_, refl}
 use Prim.Native.Nat.{ℕ, _<_}
 use mathlib.Core.List.{List, [], _∷_}
 use Rattle.answer.specs.declared.Overflow.{Overflow}
-use Rattle.model.specs.Graph.{Graph, reached}
-use Rattle.model.specs.Order.{orderBy}
-use Rattle.model.specs.Distance.{distance, kahnOrder, distanceOrder}
-use Rattle.model.specs.Space.{spaceIn}
-use Rattle.model.specs.Table.{unfit}
-use Rattle.model.specs.Copies.{ungrown, Arrangement, arranged}
-use Rattle.model.proofs.Distances.{distance-is-least}
-use Rattle.model.proofs.Growths.{Grew, ungrown-grew}
-use Rattle.model.proofs.Arrangements.{some-unfit, arranged-kahn, arranged-distance, arranged-space}
+use Rattle.model_orders.specs.Graph.{Graph, reached}
+use Rattle.model_orders.specs.Order.{orderBy}
+use Rattle.model_orders.specs.Distance.{distance, kahnOrder, distanceOrder}
+use Rattle.model_orders.specs.Space.{spaceIn}
+use Rattle.model_orders.specs.Table.{unfit}
+use Rattle.model_orders.specs.Copies.{ungrown, Arrangement, arranged}
+use Rattle.model_orders.proofs.Distances.{distance-is-least}
+use Rattle.model_orders.proofs.Growths.{Grew, ungrown-grew}
+use Rattle.model_orders.proofs.Arrangements.{some-unfit, arranged-kahn, arranged-distance, arranged-space}
 use Rattle.model_renaming.specs.Renaming.{All2, nil, Numbered, Renames, SameEnd, tables, overflows}
 use Rattle.model_renaming.proofs.Renaming.{all2-then, Unfits, none, more, unfit-rel}
 use Rattle.model_renaming.proofs.Pairs.{Paired, order-paired, least-paired}

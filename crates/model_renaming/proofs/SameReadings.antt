@@ -6,14 +6,14 @@ use native.Mathlib.Omega.{arith}
 use lib.ListN.{length}
 use lib.Dec.{eqb}
 use borrow.Author.Tests.{eq-eqb, ne-eqb}
-use Rattle.model.specs.Bag.{count}
-use Rattle.model.specs.Object.{Link}
-use Rattle.model.specs.Graph.{Graph, kidsOf}
-use Rattle.model.specs.Reading.{Reading, readLinks, Reads}
-use Rattle.model.specs.Table.{Sized}
-use Rattle.model.specs.Copies.{arranged}
-use Rattle.model.proofs.Bags.{Same, same, other, sameOr, one-same}
-use Rattle.model.proofs.Growths.{Base}
+use Rattle.model_orders.specs.Bag.{count}
+use Rattle.model_orders.specs.Object.{Link}
+use Rattle.model_orders.specs.Graph.{Graph, kidsOf}
+use Rattle.model_orders.specs.Reading.{Reading, readLinks, Reads}
+use Rattle.model_orders.specs.Table.{Sized}
+use Rattle.model_orders.specs.Copies.{arranged}
+use Rattle.model_orders.proofs.Bags.{Same, same, other, sameOr, one-same}
+use Rattle.model_orders.proofs.Growths.{Base}
 use Rattle.model_renaming.specs.Renaming.{SameLinks, Numbered, Renames, SameEnd, Different, ReadAlike}
 use Rattle.model_renaming.proofs.SameEnds.{renamed-same}
 

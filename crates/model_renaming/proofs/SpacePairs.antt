@@ -5,11 +5,11 @@ use mathlib.Core.List.{List, _∷_, _++_, map}
 use mathlib.Core.Bool.{Bool, true, false, not}
 use lib.Dec.{eqb}
 use Rattle.lists.specs.Lists.{pick, firstThat}
-use Rattle.model.specs.Bag.{count}
-use Rattle.model.specs.Object.{Slot, Link, widest}
-use Rattle.model.specs.Graph.{Graph}
-use Rattle.model.specs.Labels.{numbers}
-use Rattle.model.specs.Space.{narrow, narrowOf, narrowKids, nearFrom, near, spot, ownLabel, joinKids, joinAll, labelsBy, spaces}
+use Rattle.model_orders.specs.Bag.{count}
+use Rattle.model_orders.specs.Object.{Slot, Link, widest}
+use Rattle.model_orders.specs.Graph.{Graph}
+use Rattle.model_orders.specs.Labels.{numbers}
+use Rattle.model_orders.specs.Space.{narrow, narrowOf, narrowKids, nearFrom, near, spot, ownLabel, joinKids, joinAll, labelsBy, spaces}
 use Rattle.model_renaming.specs.Renaming.{All2, nil, cons, SameLinks, Renames}
 use Rattle.model_renaming.proofs.Renaming.{all2-append, count-rel}
 

@@ -4,12 +4,12 @@ use mathlib.Core.Path.{_≡_}
 use mathlib.Core.List.{List, [], _∷_}
 use lib.Dec.{eqb}
 use Rattle.answer.specs.declared.Overflow.{Overflow}
-use Rattle.model.specs.Object.{Link}
-use Rattle.model.specs.Bag.{count}
-use Rattle.model.specs.Graph.{Graph, kids, Acyclic}
-use Rattle.model.specs.Reading.{Reading}
-use Rattle.model.specs.Table.{placed, overflow}
-use Rattle.model.specs.Copies.{Arrangement, tableBy}
+use Rattle.model_orders.specs.Object.{Link}
+use Rattle.model_orders.specs.Bag.{count}
+use Rattle.model_orders.specs.Graph.{Graph, kids, Acyclic}
+use Rattle.model_orders.specs.Reading.{Reading}
+use Rattle.model_orders.specs.Table.{placed, overflow}
+use Rattle.model_orders.specs.Copies.{Arrangement, tableBy}
 
 -- lists whose elements are paired one by one
 pub data All2 (R : ℕ → ℕ → Type 0) : List ℕ → List ℕ → Type 0 where

@@ -10,8 +10,8 @@ use Rattle.regions.specs.Region.{Kept, Copying}
 use Rattle.regions.proofs.Laws.{region-length, region-at, region-in}
 use Rattle.regions.proofs.Bounds.{ceiling-at, ceiling-each}
 use Rattle.regions.proofs.Frame.{kept-all, kept-then, kept-set, kept-less, kept-above}
-use Rattle.model.specs.Space.{spaceWeight}
-use Rattle.model.proofs.Bags.{Same, same, other, sameOr}
+use Rattle.model_orders.specs.Space.{spaceWeight}
+use Rattle.model_orders.proofs.Bags.{Same, same, other, sameOr}
 use Rattle.work.specs.Views.{keysIn, keyIn, distancesIn, spacesIn}
 use Rattle.work.specs.declared.Areas.{Areas}
 use Rattle.order_graph.specs.Graph.{mostNodes}

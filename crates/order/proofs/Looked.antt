@@ -8,11 +8,11 @@ use lib.ListN.{length, getD}
 use Rattle.lists.specs.Lists.{pick}
 use Rattle.big_endian.specs.BigEndian.{fits}
 use Rattle.answer.specs.declared.Overflow.{Overflow}
-use Rattle.model.specs.Bag.{count}
-use Rattle.model.specs.Object.{Link}
-use Rattle.model.specs.Graph.{Graph, kidsOf, Closed, Once}
-use Rattle.model.specs.Table.{placeOf, offset, unfitLinks, unfitFrom, unfit}
-use Rattle.model.proofs.Bags.{one-same}
+use Rattle.model_orders.specs.Bag.{count}
+use Rattle.model_orders.specs.Object.{Link}
+use Rattle.model_orders.specs.Graph.{Graph, kidsOf, Closed, Once}
+use Rattle.model_orders.specs.Table.{placeOf, offset, unfitLinks, unfitFrom, unfit}
+use Rattle.model_orders.proofs.Bags.{one-same}
 use Rattle.order_fit.specs.Fit.{placesFrom, orElse, offsetBy, lookLinks, look}
 use Rattle.order_fit.specs.declared.Look.the-variants.{Over}
 use Rattle.order.specs.Try.{lookOf}

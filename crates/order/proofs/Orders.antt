@@ -4,10 +4,10 @@ use Prim.Native.Nat.{ℕ}
 use mathlib.Core.List.{List}
 use native.Mathlib.Omega.{arith}
 use Rattle.regions.specs.Region.{region}
-use Rattle.model.specs.Space.{Sorted}
-use Rattle.model.proofs.Orders.{order-counts}
-use Rattle.model.proofs.SameNodes.{SameBag}
-use Rattle.model.proofs.Spaces.{order-sorted}
+use Rattle.model_orders.specs.Space.{Sorted}
+use Rattle.model_orders.proofs.Orders.{order-counts}
+use Rattle.model_orders.proofs.SameNodes.{SameBag}
+use Rattle.model_orders.proofs.Spaces.{order-sorted}
 use Rattle.work.specs.Views.{orderIn, lineIn}
 use Rattle.work.specs.declared.Areas.{Areas}
 use Rattle.order_graph.specs.Graph.{graphOn}

@@ -5,11 +5,11 @@ use mathlib.Core.List.{List, [], _∷_}
 use native.Mathlib.Omega.{arith}
 use lib.ListN.{length, getD, set, length-set}
 use lib.Seq.{getD-set-same, getD-set-other}
-use Rattle.model.specs.Bag.{count}
-use Rattle.model.specs.Graph.{Graph, Once}
-use Rattle.model.specs.Table.{placeOf}
-use Rattle.model.proofs.Bags.{Same, same, other, sameOr, one-same, one-eq}
-use Rattle.model.proofs.Before.{before-here, before-next}
+use Rattle.model_orders.specs.Bag.{count}
+use Rattle.model_orders.specs.Graph.{Graph, Once}
+use Rattle.model_orders.specs.Table.{placeOf}
+use Rattle.model_orders.proofs.Bags.{Same, same, other, sameOr, one-same, one-eq}
+use Rattle.model_orders.proofs.Before.{before-here, before-next}
 use Rattle.order_fit.specs.Fit.{placesFrom}
 
 module _ (g : Graph) where

@@ -4,7 +4,7 @@ use Prim.Native.Nat.{ℕ}
 use mathlib.Core.List.{List}
 use native.Mathlib.Omega.{arith}
 use Rattle.regions.proofs.Frame.{kept-then, kept-less}
-use Rattle.model.specs.Order.{orderOf}
+use Rattle.model_orders.specs.Order.{orderOf}
 use Rattle.work.specs.Views.{keyIn}
 use Rattle.work.specs.declared.Areas.{Areas}
 use Rattle.order_graph.specs.Graph.{graphOn}

@@ -6,8 +6,8 @@ use native.Mathlib.Omega.{arith}
 use lib.ListN.{length}
 use Rattle.regions.proofs.Laws.{region-length}
 use Rattle.regions.proofs.Frame.{kept-then, kept-less, kept-above}
-use Rattle.model.specs.Bag.{count}
-use Rattle.model.specs.Graph.{Graph, Rooted}
+use Rattle.model_orders.specs.Bag.{count}
+use Rattle.model_orders.specs.Graph.{Graph, Rooted}
 use Rattle.work.specs.Views.{orderIn, placesIn}
 use Rattle.work.specs.declared.Areas.{Areas}
 use Rattle.order_graph.specs.Graph.{graphIn, graphOn}

@@ -5,10 +5,10 @@ use mathlib.Core.List.{List, [], _∷_}
 use lib.ListN.{length, getD}
 use Rattle.regions.specs.Region.{ceiling, Kept}
 use Rattle.answer.specs.declared.Overflow.{Overflow}
-use Rattle.model.specs.Bag.{count}
-use Rattle.model.specs.Order.{orderOf}
-use Rattle.model.specs.Space.{spaceWeight}
-use Rattle.model.specs.Table.{placeOf, unfit}
+use Rattle.model_orders.specs.Bag.{count}
+use Rattle.model_orders.specs.Order.{orderOf}
+use Rattle.model_orders.specs.Space.{spaceWeight}
+use Rattle.model_orders.specs.Table.{placeOf, unfit}
 use Rattle.work.specs.Areas.{Apart}
 use Rattle.work.specs.Views.{keyIn, orderIn, placesIn, distancesIn, spacesIn}
 use Rattle.work.specs.declared.Areas.{Areas}

@@ -8,10 +8,10 @@ use lib.ListN.{getD}
 use Rattle.regions.specs.Region.{region, Kept}
 use Rattle.regions.proofs.Frame.{kept-less, kept-below, kept-above}
 use Rattle.answer.specs.declared.Overflow.{Overflow}
-use Rattle.model.specs.Bag.{count}
-use Rattle.model.specs.Graph.{Graph, reached, Acyclic}
-use Rattle.model.specs.Table.{placed, unfit, tableLength}
-use Rattle.model.specs.Copies.{ungrown, Arrangement, fitting}
+use Rattle.model_orders.specs.Bag.{count}
+use Rattle.model_orders.specs.Graph.{Graph, reached, Acyclic}
+use Rattle.model_orders.specs.Table.{placed, unfit, tableLength}
+use Rattle.model_orders.specs.Copies.{ungrown, Arrangement, fitting}
 use Rattle.work.specs.Views.{orderIn, incomingIn}
 use Rattle.work.specs.declared.Areas.{Areas}
 use Rattle.order_graph.specs.Graph.{graphIn, graphOn}

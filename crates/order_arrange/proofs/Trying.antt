@@ -7,15 +7,15 @@ use lib.ListN.{getD}
 use Rattle.regions.specs.Region.{region, Kept}
 use Rattle.regions.proofs.Frame.{kept-then, kept-less, kept-below, kept-above}
 use Rattle.answer.specs.declared.Overflow.{Overflow}
-use Rattle.model.specs.Bag.{count}
-use Rattle.model.specs.Graph.{Graph, reached}
-use Rattle.model.specs.Order.{orderBy}
-use Rattle.model.specs.Distance.{kahnOrder, distanceOrder}
-use Rattle.model.specs.Space.{spaceIn}
-use Rattle.model.specs.Table.{unfit}
-use Rattle.model.specs.Copies.{ungrown, Arrangement, tryOrder, arranged}
-use Rattle.model.proofs.Arrangements.{try-next, arranged-kahn}
-use Rattle.model.proofs.SameNodes.{distance-order}
+use Rattle.model_orders.specs.Bag.{count}
+use Rattle.model_orders.specs.Graph.{Graph, reached}
+use Rattle.model_orders.specs.Order.{orderBy}
+use Rattle.model_orders.specs.Distance.{kahnOrder, distanceOrder}
+use Rattle.model_orders.specs.Space.{spaceIn}
+use Rattle.model_orders.specs.Table.{unfit}
+use Rattle.model_orders.specs.Copies.{ungrown, Arrangement, tryOrder, arranged}
+use Rattle.model_orders.proofs.Arrangements.{try-next, arranged-kahn}
+use Rattle.model_orders.proofs.SameNodes.{distance-order}
 use Rattle.work.specs.Views.{orderIn, lineIn, incomingIn, distancesIn}
 use Rattle.work.specs.declared.Areas.{Areas}
 use Rattle.order_graph.specs.Graph.{graphOn}

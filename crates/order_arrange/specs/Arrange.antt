@@ -1,9 +1,9 @@
 -- docs/RULES.md, 7.9: what the orders after the first come to.
 use Prim.Native.Nat.{ℕ}
-use Rattle.model.specs.Graph.{Graph}
-use Rattle.model.specs.Distance.{distanceOrder}
-use Rattle.model.specs.Table.{unfit}
-use Rattle.model.specs.Copies.{ungrown, Arrangement, tryOrder}
+use Rattle.model_orders.specs.Graph.{Graph}
+use Rattle.model_orders.specs.Distance.{distanceOrder}
+use Rattle.model_orders.specs.Table.{unfit}
+use Rattle.model_orders.specs.Copies.{ungrown, Arrangement, tryOrder}
 use Rattle.order_resolve.specs.Resolve.{bySpaces}
 
 abbrev pub byLater : ℕ → Graph → ℕ → ℕ → Arrangement

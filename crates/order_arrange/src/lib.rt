@@ -8,7 +8,7 @@ use order_resolve::resolve;
 use order_spaces::number_spaces;
 use order_survey::find_distances;
 use work::Areas;
-ghost use Rattle.model.specs.Copies.{arranged};
+ghost use Rattle.model_orders.specs.Copies.{arranged};
 ghost use Rattle.order_graph.specs.Graph.{graphOn};
 ghost use Rattle.order_resolve.specs.Resolve.{Arranging, Distances, Arranges};
 ghost use Rattle.order_arrange.specs.Arrange.{byLater};

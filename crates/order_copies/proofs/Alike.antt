@@ -8,8 +8,8 @@ use lib.ListN.{length, take}
 use lib.Dec.{eqb}
 use mathlib.Core.Bool.{true, false}
 use borrow.Author.Tests.{eq-eqb, ne-eqb}
-use Rattle.model.specs.Object.{Link, widthOk}
-use Rattle.model.specs.Copies.{leadTo, redirect, childAt}
+use Rattle.model_orders.specs.Object.{Link, widthOk}
+use Rattle.model_orders.specs.Copies.{leadTo, redirect, childAt}
 use Rattle.work.specs.Packed.{packedWords, packedAt}
 use Rattle.work.specs.declared.Areas.{Areas}
 use Rattle.order_graph.specs.Graph.{linksFrom, linksAt, linkOf, linkCount, linksAfter, TidyNode, FieldOf}

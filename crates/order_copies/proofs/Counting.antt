@@ -9,10 +9,10 @@ use Rattle.regions.specs.Region.{ceiling, Kept}
 use Rattle.regions.proofs.Laws.{region-length, region-at, region-in}
 use Rattle.regions.proofs.Bounds.{ceiling-at, ceiling-set, ceiling-bump}
 use Rattle.regions.proofs.Frame.{kept-then, kept-set}
-use Rattle.model.specs.Bag.{one, count}
-use Rattle.model.specs.Graph.{kids}
-use Rattle.model.proofs.Bags.{Same, same, other, sameOr}
-use Rattle.model.proofs.Distances.{kid-link}
+use Rattle.model_orders.specs.Bag.{one, count}
+use Rattle.model_orders.specs.Graph.{kids}
+use Rattle.model_orders.proofs.Bags.{Same, same, other, sameOr}
+use Rattle.model_orders.proofs.Distances.{kid-link}
 use Rattle.work.specs.Views.{incomingIn}
 use Rattle.work.specs.declared.Areas.{Areas}
 use Rattle.order_graph.specs.Graph.{graphOn, Stands}

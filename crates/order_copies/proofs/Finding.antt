@@ -6,8 +6,8 @@ use native.Mathlib.Omega.{arith}
 use native.Mathlib.Decide.{ℕ-discrete, decLe}
 use lib.ListN.{getD, take}
 use Rattle.regions.proofs.Laws.{region-at}
-use Rattle.model.specs.Object.{Link}
-use Rattle.model.specs.Distance.{In, here, there}
+use Rattle.model_orders.specs.Object.{Link}
+use Rattle.model_orders.specs.Distance.{In, here, there}
 use Rattle.work.specs.Views.{incomingIn}
 use Rattle.work.specs.declared.Areas.{Areas}
 use Rattle.order_graph.specs.Graph.{linkOf, linkCount, linksAfter, AtLink, FieldOf}

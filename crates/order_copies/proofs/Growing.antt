@@ -9,10 +9,10 @@ use lib.ListN.{getD, take}
 use lib.Seq.{getD-take}
 use Rattle.regions.specs.Region.{region, Kept}
 use Rattle.regions.proofs.Frame.{kept-then, kept-less, kept-at, kept-below, kept-above}
-use Rattle.model.specs.Object.{Link}
-use Rattle.model.specs.Graph.{Graph, kids, kidsOf}
-use Rattle.model.specs.Copies.{redirect, copied}
-use Rattle.model.proofs.Bags.{Same, same, other, sameOr}
+use Rattle.model_orders.specs.Object.{Link}
+use Rattle.model_orders.specs.Graph.{Graph, kids, kidsOf}
+use Rattle.model_orders.specs.Copies.{redirect, copied}
+use Rattle.model_orders.proofs.Bags.{Same, same, other, sameOr}
 use Rattle.work.specs.Areas.{Apart}
 use Rattle.work.specs.Views.{orderIn, incomingIn, spacesIn, originsIn}
 use Rattle.work.specs.declared.Areas.{Areas}

@@ -13,10 +13,10 @@ use Rattle.regions.specs.Region.{region, ceiling, Kept}
 use Rattle.regions.proofs.Laws.{region-length, region-at, region-under}
 use Rattle.regions.proofs.Bounds.{ceiling-append, ceiling-take, ceiling-drop}
 use Rattle.regions.proofs.Frame.{kept-all, kept-then, kept-set, kept-less, kept-at, kept-below}
-use Rattle.model.specs.Bag.{count}
-use Rattle.model.specs.Graph.{Once}
-use Rattle.model.specs.Copies.{beside}
-use Rattle.model.proofs.Bags.{Same, same, other, sameOr, one-same, one-other, count-append}
+use Rattle.model_orders.specs.Bag.{count}
+use Rattle.model_orders.specs.Graph.{Once}
+use Rattle.model_orders.specs.Copies.{beside}
+use Rattle.model_orders.proofs.Bags.{Same, same, other, sameOr, one-same, one-other, count-append}
 use Rattle.work.specs.Views.{orderIn}
 use Rattle.work.specs.declared.Areas.{Areas}
 use Rattle.order_copies.specs.Steps.{Inserting, Inserted}

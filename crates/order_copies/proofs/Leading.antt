@@ -8,8 +8,8 @@ use mathlib.Core.Bool.{true}
 use lib.ListN.{getD, set, take, length-set}
 use lib.Seq.{getD-take, getD-set-same, getD-set-other}
 use Rattle.regions.proofs.Frame.{kept-set}
-use Rattle.model.specs.Object.{Link, widthOk}
-use Rattle.model.specs.Copies.{leadTo}
+use Rattle.model_orders.specs.Object.{Link, widthOk}
+use Rattle.model_orders.specs.Copies.{leadTo}
 use Rattle.work.specs.Packed.{packedWords, mostHalf}
 use Rattle.work.specs.declared.Areas.{Areas}
 use Rattle.order_graph.specs.Graph.{linksAt, linkOf, linkCount, TidyNode, Stands, firstLink}

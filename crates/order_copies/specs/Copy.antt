@@ -5,11 +5,11 @@ use mathlib.Core.Path.{_≡_}
 use mathlib.Core.List.{List}
 use lib.ListN.{length, getD, set, take}
 use Rattle.regions.specs.Region.{ceiling, Kept}
-use Rattle.model.specs.Object.{Link}
-use Rattle.model.specs.Bag.{count, one}
-use Rattle.model.specs.Graph.{kids, Once}
-use Rattle.model.specs.Distance.{In}
-use Rattle.model.specs.Copies.{childAt, copied, beside}
+use Rattle.model_orders.specs.Object.{Link}
+use Rattle.model_orders.specs.Bag.{count, one}
+use Rattle.model_orders.specs.Graph.{kids, Once}
+use Rattle.model_orders.specs.Distance.{In}
+use Rattle.model_orders.specs.Copies.{childAt, copied, beside}
 use Rattle.work.specs.Packed.{packedWords}
 use Rattle.work.specs.Views.{orderIn, incomingIn, spacesIn, originIn}
 use Rattle.work.specs.declared.Areas.{Areas}

@@ -4,9 +4,9 @@ use mathlib.Core.Path.{_≡_}
 use mathlib.Core.List.{List}
 use lib.ListN.{length, getD, set, take}
 use Rattle.regions.specs.Region.{ceiling, Kept, Copying}
-use Rattle.model.specs.Bag.{one, count}
-use Rattle.model.specs.Graph.{kids, Once}
-use Rattle.model.specs.Copies.{leadTo, beside}
+use Rattle.model_orders.specs.Bag.{one, count}
+use Rattle.model_orders.specs.Graph.{kids, Once}
+use Rattle.model_orders.specs.Copies.{leadTo, beside}
 use Rattle.work.specs.Packed.{packedWords}
 use Rattle.work.specs.Views.{orderIn, incomingIn, spacesIn, originsIn, originIn}
 use Rattle.work.specs.declared.Areas.{Areas}

@@ -9,8 +9,8 @@ use Rattle.lists.proofs.Runs.{drop-first}
 use Rattle.regions.proofs.Laws.{region-at}
 use Rattle.answer.specs.declared.Overflow.{Overflow}
 use Rattle.big_endian.specs.BigEndian.{capacity}
-use Rattle.model.specs.Object.{Link}
-use Rattle.model.specs.Table.{offset}
+use Rattle.model_orders.specs.Object.{Link}
+use Rattle.model_orders.specs.Table.{offset}
 use Rattle.work.specs.declared.Areas.{Areas}
 use Rattle.work.specs.Views.{orderIn, placesIn}
 use Rattle.order_graph.specs.Graph.{graphOn, linksAfter, linkCount, objectOf, linkBy, AtNode, FieldOf}

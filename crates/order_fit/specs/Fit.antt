@@ -6,9 +6,9 @@ use lib.ListN.{getD, set}
 use Rattle.regions.specs.Region.{Kept}
 use Rattle.lists.specs.Lists.{pick}
 use Rattle.big_endian.specs.BigEndian.{fits}
-use Rattle.model.specs.Object.{Link}
-use Rattle.model.specs.Graph.{Graph}
-use Rattle.model.specs.Table.{offset}
+use Rattle.model_orders.specs.Object.{Link}
+use Rattle.model_orders.specs.Graph.{Graph}
+use Rattle.model_orders.specs.Table.{offset}
 use Rattle.work.specs.declared.Areas.{Areas}
 use Rattle.order_graph.specs.Graph.{Stands, graphOn, objectOf}
 use Rattle.work.specs.Views.{orderIn, placesIn}

@@ -8,9 +8,9 @@ use lib.Seq.{getD-take}
 use borrow.Author.Tests.{lt-ltb}
 use Rattle.big_endian.specs.BigEndian.{capacity}
 use Rattle.big_endian.proofs.Laws.{capacity-rises}
-use Rattle.model.specs.Object.{Link, widest}
-use Rattle.model.proofs.Slots.{width-most}
-use Rattle.model.specs.Distance.{weight}
+use Rattle.model_orders.specs.Object.{Link, widest}
+use Rattle.model_orders.proofs.Slots.{width-most}
+use Rattle.model_orders.specs.Distance.{weight}
 use Rattle.regions.specs.Region.{Kept}
 use Rattle.regions.proofs.Frame.{kept-less}
 use Rattle.work.specs.Packed.{packedWords, packedAt}

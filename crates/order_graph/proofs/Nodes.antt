@@ -5,11 +5,11 @@ use mathlib.Core.List.{List}
 use native.Mathlib.Omega.{arith}
 use Rattle.regions.specs.Region.{ceiling, Kept}
 use Rattle.regions.proofs.Bounds.{ceiling-at}
-use Rattle.model.specs.Bag.{count}
-use Rattle.model.specs.Space.{spot}
-use Rattle.model.proofs.Spots.{spot-in, spot-at}
-use Rattle.model.proofs.Waits.{waits-bag}
-use Rattle.model.proofs.SameNodes.{SameBag, rooted-same, rooted-bag}
+use Rattle.model_orders.specs.Bag.{count}
+use Rattle.model_orders.specs.Space.{spot}
+use Rattle.model_orders.proofs.Spots.{spot-in, spot-at}
+use Rattle.model_orders.proofs.Waits.{waits-bag}
+use Rattle.model_orders.proofs.SameNodes.{SameBag, rooted-same, rooted-bag}
 use Rattle.work.specs.Views.{incomingIn}
 use Rattle.work.specs.declared.Areas.{Areas}
 use Rattle.order_graph.specs.Graph.{graphOn, Stands, Counted}

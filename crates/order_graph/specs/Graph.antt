@@ -7,10 +7,10 @@ use lib.ListN.{length, getD, take}
 use lib.Dec.{ltb}
 use Rattle.lists.specs.Lists.{pick}
 use Rattle.answer.specs.declared.ObjectId.{ObjectId}
-use Rattle.model.specs.Object.{Link, widest, widthOk}
-use Rattle.model.specs.Words.{linkOfWords}
-use Rattle.model.specs.Graph.{Graph, waits, Rooted}
-use Rattle.model.specs.Distance.{weight}
+use Rattle.model_orders.specs.Object.{Link, widest, widthOk}
+use Rattle.model_orders.specs.Words.{linkOfWords}
+use Rattle.model_orders.specs.Graph.{Graph, waits, Rooted}
+use Rattle.model_orders.specs.Distance.{weight}
 use Rattle.work.specs.Areas.{Apart}
 use Rattle.work.specs.Packed.{packedWords, packedAt}
 use Rattle.work.specs.Views.{incomingIn, originIn}

@@ -5,8 +5,8 @@ use mathlib.Core.List.{List, [], _∷_, _++_}
 use native.Mathlib.Omega.{arith}
 use lib.ListN.{length, getD, set, length-set}
 use lib.Seq.{getD-set-other}
-use Rattle.model.specs.Bag.{one, count}
-use Rattle.model.proofs.Bags.{count-append}
+use Rattle.model_orders.specs.Bag.{one, count}
+use Rattle.model_orders.proofs.Bags.{count-append}
 
 pub count-snoc : (x y : ℕ) (l : List ℕ) → count x (l ++ (y ∷ [])) ≡ one x y + count x l
 unfolding count

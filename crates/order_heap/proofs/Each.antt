@@ -3,8 +3,8 @@ use Prim.Native.Nat.{ℕ, _≤_, _<_}
 use mathlib.Core.List.{List, [], _∷_, _++_, map}
 use native.Mathlib.Omega.{arith}
 use Rattle.lists.proofs.Elements.{Each, none, more}
-use Rattle.model.specs.Bag.{count}
-use Rattle.model.proofs.Bags.{one-same}
+use Rattle.model_orders.specs.Bag.{count}
+use Rattle.model_orders.proofs.Bags.{one-same}
 
 pub each-front : {P : ℕ → Type 0} (a b : List ℕ) → Each P (a ++ b) → Each P a
 each-front [] b s = none

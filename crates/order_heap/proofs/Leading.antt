@@ -8,7 +8,7 @@ use lib.Dec.{ltb}
 use borrow.Author.Tests.{eq-eqb, ne-eqb, lt-ltb, le-ltb}
 use Rattle.lists.specs.Lists.{pick}
 use Rattle.lists.proofs.Elements.{Each, none, more}
-use Rattle.model.specs.Bag.{without, least}
+use Rattle.model_orders.specs.Bag.{without, least}
 
 pub without-first : (x : ℕ) (l : List ℕ) → without x (x ∷ l) ≡ l
 unfolding without

@@ -7,10 +7,10 @@ use native.Mathlib.Omega.{arith}
 use lib.ListN.{length, getD, take, drop, length-append, length-map, List·getD-append}
 use lib.Seq.{getD-at, split-at}
 use Rattle.lists.proofs.Elements.{Each, map-each}
-use Rattle.model.specs.Bag.{count, without, least}
-use Rattle.model.specs.Space.{spot}
-use Rattle.model.proofs.Bags.{count-append, bag-long}
-use Rattle.model.proofs.Spots.{map-at, spot-in, spot-at}
+use Rattle.model_orders.specs.Bag.{count, without, least}
+use Rattle.model_orders.specs.Space.{spot}
+use Rattle.model_orders.proofs.Bags.{count-append, bag-long}
+use Rattle.model_orders.proofs.Spots.{map-at, spot-in, spot-at}
 use Rattle.order_heap.specs.Heap.{Least, Added}
 use Rattle.order_heap.specs.Stamps.{mostArrivals, stamp, arrivalOf, nodeOf, Rises, end, Stamped}
 use Rattle.order_heap.proofs.Bags.{count-snoc}

@@ -6,9 +6,9 @@ use native.Mathlib.Omega.{arith}
 use native.Mathlib.Numerals.{add-one}
 use lib.ListN.{length, getD, set, take, drop, length-append, length-drop, length-set}
 use lib.Seq.{length-take-le, getD-take, take-suc, take-suc-set, take-set-lt, take-at, drop-at}
-use Rattle.model.specs.Bag.{one, count}
-use Rattle.model.specs.Space.{spot}
-use Rattle.model.proofs.Spots.{spot-in, spot-at, count-at}
+use Rattle.model_orders.specs.Bag.{one, count}
+use Rattle.model_orders.specs.Space.{spot}
+use Rattle.model_orders.proofs.Spots.{spot-in, spot-at, count-at}
 use Rattle.order_heap.specs.Heap.{parent, Heaped, Least, Pushed, Popped, Hollow, Filled, Moved}
 use Rattle.order_heap.proofs.Bags.{count-snoc, count-set}
 

@@ -5,7 +5,7 @@ use mathlib.Core.List.{List}
 use mathlib.Core.Bool.{Bool}
 use lib.ListN.{length, getD, set, take, drop}
 use Rattle.lists.specs.Lists.{pick}
-use Rattle.model.specs.Bag.{one, count}
+use Rattle.model_orders.specs.Bag.{one, count}
 
 -- the place above a place
 abbrev pub parent : ℕ → ℕ

@@ -4,7 +4,7 @@ use Prim.Native.Nat.{ℕ, _+_, _*_, _%_, _≤_, _<_}
 use mathlib.Core.Path.{_≡_}
 use mathlib.Core.List.{List, [], _∷_, map}
 use lib.ListN.{length, getD}
-use Rattle.model.specs.Bag.{count}
+use Rattle.model_orders.specs.Bag.{count}
 
 -- how many nodes may become ready
 abbrev pub mostArrivals : ℕ

@@ -6,8 +6,8 @@ use native.Mathlib.Omega.{arith}
 use native.Mathlib.Decide.{decLe}
 use lib.ListN.{length, getD, List·getD-eq-default}
 use lib.Seq.{ext-getD}
-use Rattle.model.proofs.Bags.{Same, same, other, sameOr}
-use Rattle.model.specs.Labels.{Settled}
+use Rattle.model_orders.proofs.Bags.{Same, same, other, sameOr}
+use Rattle.model_orders.specs.Labels.{Settled}
 use Rattle.order_merge.specs.Bosses.{climb, each, roots, Falls}
 
 pub record Rooted (b s : List ℕ) : Type 0 where

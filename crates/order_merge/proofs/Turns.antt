@@ -5,9 +5,9 @@ use mathlib.Core.List.{List}
 use native.Mathlib.Omega.{arith}
 use lib.ListN.{length, getD, set, length-set}
 use lib.Seq.{getD-set-same, getD-set-other}
-use Rattle.model.specs.Labels.{merged, merge}
-use Rattle.model.proofs.Bags.{Same, same, other, sameOr}
-use Rattle.model.proofs.Labels.{Merged, higher, stays, mergedOr, merged-min, merged-max, own-min, own-max, merge-at, merge-length}
+use Rattle.model_orders.specs.Labels.{merged, merge}
+use Rattle.model_orders.proofs.Bags.{Same, same, other, sameOr}
+use Rattle.model_orders.proofs.Labels.{Merged, higher, stays, mergedOr, merged-min, merged-max, own-min, own-max, merge-at, merge-length}
 use Rattle.order_merge.specs.Bosses.{roots, Falls, Finds, Joins}
 use Rattle.order_merge.proofs.Roots.{Rooted, rooted-settled, rooted-only, roots-rooted}
 

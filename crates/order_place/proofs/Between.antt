@@ -8,8 +8,8 @@ use Rattle.regions.specs.Region.{Kept}
 use Rattle.regions.proofs.Frame.{kept-all}
 use Rattle.work.specs.declared.Areas.{Areas}
 use Rattle.work.specs.Views.{waitingIn, orderIn}
-use Rattle.model.specs.Order.{orderOf}
-use Rattle.model.proofs.SameNodes.{order-agree}
+use Rattle.model_orders.specs.Order.{orderOf}
+use Rattle.model_orders.proofs.SameNodes.{order-agree}
 use Rattle.order_graph.specs.Graph.{graphOn, Counted}
 use Rattle.order_graph.proofs.Nodes.{counted-bag}
 use Rattle.order_release.specs.Release.{Live}

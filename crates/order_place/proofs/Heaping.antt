@@ -12,7 +12,7 @@ use Rattle.regions.proofs.Frame.{kept-then, kept-set, kept-less, kept-below, ke
 use Rattle.work.specs.Areas.{Apart}
 use Rattle.work.specs.declared.Areas.{Areas}
 use Rattle.work.specs.Views.{keysIn, keyIn, waitingIn, arrivedIn, heapIn, orderIn}
-use Rattle.model.specs.Bag.{without, least}
+use Rattle.model_orders.specs.Bag.{without, least}
 use Rattle.order_graph.specs.Graph.{graphOn}
 use Rattle.order_graph.proofs.Links.{front-kept, stands-kept}
 use Rattle.order_heap.proofs.Stamped.{stamped-long}

@@ -11,7 +11,7 @@ use Rattle.regions.proofs.Bounds.{ceiling-at}
 use Rattle.regions.proofs.Frame.{kept-then, kept-less}
 use Rattle.work.specs.declared.Areas.{Areas}
 use Rattle.work.specs.Views.{orderIn}
-use Rattle.model.specs.Bag.{without, least}
+use Rattle.model_orders.specs.Bag.{without, least}
 use Rattle.order_graph.specs.Graph.{graphOn}
 use Rattle.order_graph.proofs.Links.{front-kept}
 use Rattle.order_heap.proofs.Leading.{without-first}

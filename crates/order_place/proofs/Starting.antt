@@ -13,7 +13,7 @@ use Rattle.regions.specs.Region.{ceiling, Kept, Copying}
 use Rattle.regions.proofs.Laws.{region-length, region-over, region-push}
 use Rattle.regions.proofs.Frame.{kept-then, kept-set, kept-less, kept-below, kept-above}
 use Rattle.work.specs.declared.Areas.{Areas}
-use Rattle.model.specs.Order.{orderOf}
+use Rattle.model_orders.specs.Order.{orderOf}
 use Rattle.work.specs.Areas.{Apart}
 use Rattle.work.specs.Views.{keysIn, orderIn, incomingIn}
 use Rattle.order_graph.specs.Graph.{graphOn, Counted}

@@ -9,13 +9,13 @@ use lib.Seq.{getD-set-same, getD-set-other}
 use lib.Dec.{eqb}
 use borrow.Author.Tests.{eq-eqb, ne-eqb}
 use Rattle.lists.specs.Lists.{pick}
-use Rattle.model.specs.Bag.{count, without, zerosOf, lastOnce, least}
-use Rattle.model.specs.Object.{Link}
-use Rattle.model.specs.Graph.{Graph, kids, kidsOf, waits, Rooted}
-use Rattle.model.specs.Order.{orderFrom, orderOf}
-use Rattle.model.proofs.Bags.{Same, same, other, sameOr, Zero, none, some, zeroOr, one-same, length-without, least-in}
-use Rattle.model.proofs.Waits.{waits-without}
-use Rattle.model.proofs.Orders.{Inv, next-free, next-inv, rooted-inv}
+use Rattle.model_orders.specs.Bag.{count, without, zerosOf, lastOnce, least}
+use Rattle.model_orders.specs.Object.{Link}
+use Rattle.model_orders.specs.Graph.{Graph, kids, kidsOf, waits, Rooted}
+use Rattle.model_orders.specs.Order.{orderFrom, orderOf}
+use Rattle.model_orders.proofs.Bags.{Same, same, other, sameOr, Zero, none, some, zeroOr, one-same, length-without, least-in}
+use Rattle.model_orders.proofs.Waits.{waits-without}
+use Rattle.model_orders.proofs.Orders.{Inv, next-free, next-inv, rooted-inv}
 use Rattle.order_release.specs.Release.{Arrivals, released, releasedAll}
 
 -- ---- a placed node's links taken off

@@ -4,8 +4,8 @@ use mathlib.Core.Path.{_≡_}
 use mathlib.Core.List.{List, [], _∷_, _++_}
 use lib.ListN.{drop}
 use Rattle.regions.specs.Region.{region, ceiling, Kept}
-use Rattle.model.specs.Bag.{without, least}
-use Rattle.model.specs.Order.{orderOf}
+use Rattle.model_orders.specs.Bag.{without, least}
+use Rattle.model_orders.specs.Order.{orderOf}
 use Rattle.work.specs.declared.Areas.{Areas}
 use Rattle.work.specs.Views.{keysIn, keyIn, waitingIn, arrivedIn, heapIn, orderIn, incomingIn}
 use Rattle.order_graph.specs.Graph.{Stands, graphOn, Counted}

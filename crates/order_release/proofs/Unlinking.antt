@@ -9,7 +9,7 @@ use Rattle.regions.proofs.Laws.{region-length}
 use Rattle.regions.proofs.Frame.{kept-all, kept-then}
 use Rattle.work.specs.declared.Areas.{Areas}
 use Rattle.work.specs.Views.{waitingIn}
-use Rattle.model.specs.Object.{Link}
+use Rattle.model_orders.specs.Object.{Link}
 use Rattle.order_graph.specs.Graph.{graphOn, linksAfter, linkCount, AtLink, FieldOf}
 use Rattle.order_graph.proofs.Links.{links-in, links-read, links-none, front-kept, stands-kept}
 use Rattle.order_release.specs.Release.{Arrivals, released, releasedAll, waiting, arrivalsOf, Arrives, Live, ReleasedAll}

@@ -6,7 +6,7 @@ use lib.ListN.{length, getD, set}
 use lib.Dec.{eqb}
 use Rattle.regions.specs.Region.{region, ceiling, Kept}
 use Rattle.lists.specs.Lists.{pick}
-use Rattle.model.specs.Object.{Link}
+use Rattle.model_orders.specs.Object.{Link}
 use Rattle.work.specs.Areas.{Apart}
 use Rattle.work.specs.Views.{waitingIn}
 use Rattle.work.specs.declared.Areas.{Areas}

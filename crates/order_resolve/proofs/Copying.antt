@@ -14,17 +14,17 @@ use Rattle.regions.proofs.Laws.{region-length}
 use Rattle.regions.proofs.Bounds.{ceiling-at, ceiling-set}
 use Rattle.regions.proofs.Frame.{kept-then, kept-less}
 use Rattle.answer.specs.declared.Overflow.{Overflow}
-use Rattle.model.specs.Bag.{one, count}
-use Rattle.model.specs.Graph.{Graph, kids, waits, Once}
-use Rattle.model.specs.Space.{spaceIn}
-use Rattle.model.specs.Copies.{childAt, copied, beside, Grown, childOf, grow, spaceOrder, resolve}
-use Rattle.model.proofs.Bags.{Same, same, other, sameOr, bag-long}
-use Rattle.model.proofs.Beside.{beside-count}
-use Rattle.model.proofs.Reach.{reached-few}
-use Rattle.model.proofs.Orders.{order-first}
-use Rattle.model.proofs.SameNodes.{SameBag}
-use Rattle.model.proofs.Growths.{Curable, child-here, grow-waits, grow-first, grow-counts, grow-grew, grew-length, grew-nodes}
-use Rattle.model.proofs.Resolving.{resolve-next, report-curable}
+use Rattle.model_orders.specs.Bag.{one, count}
+use Rattle.model_orders.specs.Graph.{Graph, kids, waits, Once}
+use Rattle.model_orders.specs.Space.{spaceIn}
+use Rattle.model_orders.specs.Copies.{childAt, copied, beside, Grown, childOf, grow, spaceOrder, resolve}
+use Rattle.model_orders.proofs.Bags.{Same, same, other, sameOr, bag-long}
+use Rattle.model_orders.proofs.Beside.{beside-count}
+use Rattle.model_orders.proofs.Reach.{reached-few}
+use Rattle.model_orders.proofs.Orders.{order-first}
+use Rattle.model_orders.proofs.SameNodes.{SameBag}
+use Rattle.model_orders.proofs.Growths.{Curable, child-here, grow-waits, grow-first, grow-counts, grow-grew, grew-length, grew-nodes}
+use Rattle.model_orders.proofs.Resolving.{resolve-next, report-curable}
 use Rattle.work.specs.Views.{orderIn, lineIn, incomingIn, spacesIn, originIn}
 use Rattle.work.specs.declared.Areas.{Areas}
 use Rattle.order_graph.specs.Graph.{graphOn, mostSize}

@@ -9,13 +9,13 @@ use borrow.Author.Tests.{lt-ltb, le-ltb}
 use Rattle.lists.specs.Lists.{total}
 use Rattle.regions.specs.Region.{ceiling, Kept}
 use Rattle.regions.proofs.Frame.{kept-all, kept-above, kept-below}
-use Rattle.model.specs.Bag.{count}
-use Rattle.model.specs.Graph.{Graph, kids, waits}
-use Rattle.model.specs.Space.{spaceIn}
-use Rattle.model.specs.Table.{tableLength}
-use Rattle.model.specs.Copies.{Grown, ungrown, resolve}
-use Rattle.model.proofs.Distances.{kid-link}
-use Rattle.model.proofs.Growths.{Grew, ungrown-grew}
+use Rattle.model_orders.specs.Bag.{count}
+use Rattle.model_orders.specs.Graph.{Graph, kids, waits}
+use Rattle.model_orders.specs.Space.{spaceIn}
+use Rattle.model_orders.specs.Table.{tableLength}
+use Rattle.model_orders.specs.Copies.{Grown, ungrown, resolve}
+use Rattle.model_orders.proofs.Distances.{kid-link}
+use Rattle.model_orders.proofs.Growths.{Grew, ungrown-grew}
 use Rattle.work.specs.Packed.{packedWords}
 use Rattle.work.specs.Views.{incomingIn, spacesIn, originsIn, originIn}
 use Rattle.work.specs.declared.Areas.{Areas}

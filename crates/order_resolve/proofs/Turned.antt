@@ -11,21 +11,21 @@ use Rattle.lists.specs.Lists.{pick}
 use Rattle.regions.specs.Region.{Kept}
 use Rattle.regions.proofs.Frame.{kept-then, kept-less}
 use Rattle.answer.specs.declared.Overflow.{Overflow}
-use Rattle.model.specs.Bag.{count}
-use Rattle.model.specs.Object.{Link}
-use Rattle.model.specs.Graph.{Graph}
-use Rattle.model.specs.Distance.{here, there, Least, weight}
-use Rattle.model.specs.Space.{spaceIn}
-use Rattle.model.specs.Table.{Outcome, placed}
-use Rattle.model.specs.Copies.{childAt, Grown, childOf, grownKey, spaceOrder, misfits, Arrangement, fitting, failing, shared, resolve}
-use Rattle.model.proofs.Bags.{Zero, none, some, zeroOr}
-use Rattle.model.proofs.Orders.{order-counts}
-use Rattle.model.proofs.SameNodes.{SameBag, order-agree}
-use Rattle.model.proofs.Distances.{least-one}
-use Rattle.model.proofs.Redirects.{Field, this, later}
-use Rattle.model.proofs.Reports.{Reported, unfit-head}
-use Rattle.model.proofs.Growths.{along-least}
-use Rattle.model.proofs.Resolving.{resolve-placed, resolve-alone, resolve-spent}
+use Rattle.model_orders.specs.Bag.{count}
+use Rattle.model_orders.specs.Object.{Link}
+use Rattle.model_orders.specs.Graph.{Graph}
+use Rattle.model_orders.specs.Distance.{here, there, Least, weight}
+use Rattle.model_orders.specs.Space.{spaceIn}
+use Rattle.model_orders.specs.Table.{Outcome, placed}
+use Rattle.model_orders.specs.Copies.{childAt, Grown, childOf, grownKey, spaceOrder, misfits, Arrangement, fitting, failing, shared, resolve}
+use Rattle.model_orders.proofs.Bags.{Zero, none, some, zeroOr}
+use Rattle.model_orders.proofs.Orders.{order-counts}
+use Rattle.model_orders.proofs.SameNodes.{SameBag, order-agree}
+use Rattle.model_orders.proofs.Distances.{least-one}
+use Rattle.model_orders.proofs.Redirects.{Field, this, later}
+use Rattle.model_orders.proofs.Reports.{Reported, unfit-head}
+use Rattle.model_orders.proofs.Growths.{along-least}
+use Rattle.model_orders.proofs.Resolving.{resolve-placed, resolve-alone, resolve-spent}
 use Rattle.work.specs.Views.{orderIn, distancesIn}
 use Rattle.work.specs.declared.Areas.{Areas}
 use Rattle.order_graph.specs.Graph.{graphOn}

@@ -9,11 +9,11 @@ use lib.Dec.{eqb, ltb}
 use Rattle.lists.specs.Lists.{pick}
 use Rattle.regions.specs.Region.{ceiling, Kept}
 use Rattle.answer.specs.declared.Overflow.{Overflow}
-use Rattle.model.specs.Bag.{count}
-use Rattle.model.specs.Graph.{Graph, reached, Acyclic}
-use Rattle.model.specs.Space.{spaceIn}
-use Rattle.model.specs.Table.{Outcome, placed, overflow, placeOf, tableLength}
-use Rattle.model.specs.Copies.{ungrown, Arrangement, resolve, lengthOf}
+use Rattle.model_orders.specs.Bag.{count}
+use Rattle.model_orders.specs.Graph.{Graph, reached, Acyclic}
+use Rattle.model_orders.specs.Space.{spaceIn}
+use Rattle.model_orders.specs.Table.{Outcome, placed, overflow, placeOf, tableLength}
+use Rattle.model_orders.specs.Copies.{ungrown, Arrangement, resolve, lengthOf}
 use Rattle.work.specs.Packed.{packedWords}
 use Rattle.work.specs.Views.{orderIn, placesIn, incomingIn, spacesIn, originIn}
 use Rattle.work.specs.declared.Areas.{Areas}

@@ -9,13 +9,13 @@ use lib.Seq.{getD-set-same, getD-set-other}
 use lib.Dec.{eqb}
 use borrow.Author.Tests.{eq-eqb, ne-eqb}
 use Rattle.lists.specs.Lists.{pick, firstThat}
-use Rattle.model.specs.Bag.{one, count}
-use Rattle.model.specs.Graph.{Graph, Once, Closed}
-use Rattle.model.specs.Space.{narrowKids, nearFrom, near, spot, ownLabel, joinKids, joinAll, labelsBy, labels, Sorted}
-use Rattle.model.proofs.Bags.{Same, same, other, sameOr, Zero, none, some, zeroOr, one-same, one-eq, count-append}
-use Rattle.model.proofs.Spots.{spot-at}
-use Rattle.model.proofs.Near.{narrow-kid}
-use Rattle.model.proofs.Spaces.{root-first}
+use Rattle.model_orders.specs.Bag.{one, count}
+use Rattle.model_orders.specs.Graph.{Graph, Once, Closed}
+use Rattle.model_orders.specs.Space.{narrowKids, nearFrom, near, spot, ownLabel, joinKids, joinAll, labelsBy, labels, Sorted}
+use Rattle.model_orders.proofs.Bags.{Same, same, other, sameOr, Zero, none, some, zeroOr, one-same, one-eq, count-append}
+use Rattle.model_orders.proofs.Spots.{spot-at}
+use Rattle.model_orders.proofs.Near.{narrow-kid}
+use Rattle.model_orders.proofs.Spaces.{root-first}
 use Rattle.order_spaces.specs.Spaces.{spotsFrom, cleared, clearedAll, tied, tiedAll, ownBosses}
 
 -- ---- positions stored one by one

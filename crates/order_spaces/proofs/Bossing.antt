@@ -8,7 +8,7 @@ use lib.ListN.{length, getD, set, length-map, List·getD-eq-default}
 use Rattle.regions.specs.Region.{Kept}
 use Rattle.regions.proofs.Laws.{region-at, region-push, region-next}
 use Rattle.regions.proofs.Frame.{kept-all, kept-then, kept-set, kept-below}
-use Rattle.model.proofs.Spots.{map-at}
+use Rattle.model_orders.proofs.Spots.{map-at}
 use Rattle.work.specs.Views.{orderIn, spotsIn, bossesIn}
 use Rattle.work.specs.declared.Areas.{Areas}
 use Rattle.order_graph.proofs.Links.{front-kept}

@@ -9,7 +9,7 @@ use borrow.Author.Tests.{eq-eqb, ne-eqb}
 use Rattle.regions.specs.Region.{Kept}
 use Rattle.regions.proofs.Laws.{region-at, region-in}
 use Rattle.regions.proofs.Frame.{kept-all, kept-then, kept-set}
-use Rattle.model.specs.Space.{narrowOf, narrowKids}
+use Rattle.model_orders.specs.Space.{narrowOf, narrowKids}
 use Rattle.work.specs.Views.{orderIn, spotsIn}
 use Rattle.work.specs.declared.Areas.{Areas}
 use Rattle.order_graph.specs.Graph.{graphOn, linksAfter, linkCount, AtNode, AtLink}

@@ -11,9 +11,9 @@ use Rattle.regions.specs.Region.{ceiling, Kept, Filling}
 use Rattle.regions.proofs.Laws.{region-length, region-at, region-in}
 use Rattle.regions.proofs.Bounds.{ceiling-set, ceiling-replicate}
 use Rattle.regions.proofs.Frame.{kept-all, kept-then, kept-set, kept-less, kept-below}
-use Rattle.model.specs.Labels.{begun, numbers, Settled}
-use Rattle.model.proofs.Bags.{Same, same, other, sameOr}
-use Rattle.model.proofs.Labels.{begun-own, begun-other, begun-low, begun-rises, number-at}
+use Rattle.model_orders.specs.Labels.{begun, numbers, Settled}
+use Rattle.model_orders.proofs.Bags.{Same, same, other, sameOr}
+use Rattle.model_orders.proofs.Labels.{begun-own, begun-other, begun-low, begun-rises, number-at}
 use Rattle.work.specs.Views.{orderIn, bossesIn, spacesIn}
 use Rattle.work.specs.declared.Areas.{Areas}
 use Rattle.order_merge.specs.Bosses.{roots}

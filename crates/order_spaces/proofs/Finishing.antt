@@ -11,12 +11,12 @@ use Rattle.regions.specs.Region.{ceiling}
 use Rattle.regions.proofs.Laws.{region-length}
 use Rattle.regions.proofs.Bounds.{ceiling-at, ceiling-set, ceiling-replicate}
 use Rattle.regions.proofs.Frame.{kept-then, kept-less}
-use Rattle.model.specs.Bag.{count}
-use Rattle.model.specs.Graph.{Graph}
-use Rattle.model.specs.Labels.{numbers, Settled}
-use Rattle.model.specs.Space.{narrowKids, near, spot, labels}
-use Rattle.model.proofs.Spots.{map-at, spot-in, spot-at}
-use Rattle.model.proofs.Spaces.{own-settled}
+use Rattle.model_orders.specs.Bag.{count}
+use Rattle.model_orders.specs.Graph.{Graph}
+use Rattle.model_orders.specs.Labels.{numbers, Settled}
+use Rattle.model_orders.specs.Space.{narrowKids, near, spot, labels}
+use Rattle.model_orders.proofs.Spots.{map-at, spot-in, spot-at}
+use Rattle.model_orders.proofs.Spaces.{own-settled}
 use Rattle.work.specs.Views.{orderIn, spotsIn, bossesIn}
 use Rattle.work.specs.declared.Areas.{Areas}
 use Rattle.order_graph.specs.Graph.{graphOn}

@@ -9,8 +9,8 @@ use Rattle.regions.specs.Region.{Kept}
 use Rattle.regions.proofs.Laws.{region-length, region-at}
 use Rattle.regions.proofs.Bounds.{ceiling-at}
 use Rattle.regions.proofs.Frame.{kept-below, kept-above}
-use Rattle.model.specs.Space.{spot}
-use Rattle.model.proofs.Spots.{at-spot}
+use Rattle.model_orders.specs.Space.{spot}
+use Rattle.model_orders.proofs.Spots.{at-spot}
 use Rattle.work.specs.Views.{orderIn}
 use Rattle.work.specs.declared.Areas.{Areas}
 use Rattle.order_graph.proofs.Links.{stands-kept}

@@ -5,9 +5,9 @@ use mathlib.Core.List.{List, [], _∷_}
 use mathlib.Core.Bool.{Bool, true, false, not, true≢false, false≢true}
 use lib.Dec.{eqb}
 use borrow.Author.Tests.{not-true, not-false}
-use Rattle.model.specs.Object.{Link, widest}
-use Rattle.model.specs.Space.{narrow, narrowOf, narrowKids}
-use Rattle.model.proofs.Near.{Next, taken, passed, nextOr}
+use Rattle.model_orders.specs.Object.{Link, widest}
+use Rattle.model_orders.specs.Space.{narrow, narrowOf, narrowKids}
+use Rattle.model_orders.proofs.Near.{Next, taken, passed, nextOr}
 use Rattle.work.specs.declared.Areas.{Areas}
 use Rattle.order_graph.specs.Graph.{graphIn, linkOf, linksAfter, linkCount, FieldOf}
 use Rattle.order_graph.proofs.Links.{links-in, links-next, links-none}

@@ -10,7 +10,7 @@ use Rattle.regions.specs.Region.{Kept}
 use Rattle.regions.proofs.Laws.{region-length, region-at}
 use Rattle.regions.proofs.Bounds.{ceiling-at}
 use Rattle.regions.proofs.Frame.{kept-all, kept-then, kept-less, kept-below}
-use Rattle.model.specs.Space.{narrowOf, narrowKids}
+use Rattle.model_orders.specs.Space.{narrowOf, narrowKids}
 use Rattle.work.specs.Views.{orderIn, spotsIn, bossesIn}
 use Rattle.work.specs.declared.Areas.{Areas}
 use Rattle.order_graph.specs.Graph.{graphOn, linksAfter, linkCount, AtLink}

@@ -8,10 +8,10 @@ use lib.ListN.{getD, set, replicate}
 use lib.Dec.{eqb}
 use Rattle.lists.specs.Lists.{pick}
 use Rattle.regions.specs.Region.{region, ceiling, Kept}
-use Rattle.model.specs.Bag.{count}
-use Rattle.model.specs.Graph.{Graph, Once}
-use Rattle.model.specs.Labels.{join, numbers}
-use Rattle.model.specs.Space.{narrow, narrowKids, spaceOf, Sorted}
+use Rattle.model_orders.specs.Bag.{count}
+use Rattle.model_orders.specs.Graph.{Graph, Once}
+use Rattle.model_orders.specs.Labels.{join, numbers}
+use Rattle.model_orders.specs.Space.{narrow, narrowKids, spaceOf, Sorted}
 use Rattle.work.specs.Views.{orderIn, spotsIn, bossesIn, spacesIn}
 use Rattle.work.specs.declared.Areas.{Areas}
 use Rattle.order_graph.specs.Graph.{linkOf, graphOn, Stands}

@@ -1,5 +1,5 @@
 // A link as spaces see it.
-use model::WIDEST;
+use model_orders::WIDEST;
 use order_graph::field_at;
 use work::Areas;
 ghost use lib.ListN.{take};

@@ -10,7 +10,7 @@ use Rattle.regions.proofs.Bounds.{ceiling-at, ceiling-bump}
 use Rattle.regions.proofs.Frame.{kept-all, kept-then, kept-set}
 use Rattle.work.specs.Views.{incomingIn}
 use Rattle.work.specs.declared.Areas.{Areas}
-use Rattle.model.specs.Object.{Link}
+use Rattle.model_orders.specs.Object.{Link}
 use Rattle.order_graph.specs.Graph.{graphOn, linksAfter, linkCount, FieldOf}
 use Rattle.order_graph.proofs.Links.{links-in, links-read, links-none, front-kept}
 use Rattle.order_survey.specs.Survey.{countedAll, farAway, Counting, CountedAll}

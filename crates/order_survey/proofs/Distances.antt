@@ -7,12 +7,12 @@ use native.Mathlib.Decide.{decLe}
 use lib.ListN.{length, getD, replicate, length-set, length-replicate}
 use borrow.Author.Tests.{le-ltb, lt-ltb}
 use Rattle.big_endian.proofs.Laws.{capacity-rises}
-use Rattle.model.specs.Bag.{count}
-use Rattle.model.specs.Object.{Link, widest}
-use Rattle.model.specs.Graph.{Graph, Ranked, ParentsFirst, Rooted}
-use Rattle.model.specs.Distance.{In, here, there, Path, start, along, Least, weight, distancesBy}
-use Rattle.model.proofs.Slots.{width-most}
-use Rattle.model.proofs.Distances.{in-kids, all-length, distance-least}
+use Rattle.model_orders.specs.Bag.{count}
+use Rattle.model_orders.specs.Object.{Link, widest}
+use Rattle.model_orders.specs.Graph.{Graph, Ranked, ParentsFirst, Rooted}
+use Rattle.model_orders.specs.Distance.{In, here, there, Path, start, along, Least, weight, distancesBy}
+use Rattle.model_orders.proofs.Slots.{width-most}
+use Rattle.model_orders.proofs.Distances.{in-kids, all-length, distance-least}
 use Rattle.work.specs.Packed.{packedWords, packedAt}
 use Rattle.work.specs.declared.Areas.{Areas}
 use Rattle.order_graph.specs.Graph.{graphIn, linksFrom, linksAt, linkCount, linkOf, mostNodes, mostWeight, Tidy}

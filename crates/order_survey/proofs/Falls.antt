@@ -11,7 +11,7 @@ use Rattle.regions.specs.Region.{ceiling, Kept, Filling}
 use Rattle.regions.proofs.Laws.{region-at, region-in, region-under, region-push}
 use Rattle.regions.proofs.Bounds.{ceiling-set, ceiling-append, ceiling-replicate}
 use Rattle.regions.proofs.Frame.{kept-all, kept-then, kept-set, kept-less, kept-below}
-use Rattle.model.specs.Graph.{Graph}
+use Rattle.model_orders.specs.Graph.{Graph}
 use Rattle.work.specs.Views.{lineIn, incomingIn}
 use Rattle.work.specs.declared.Areas.{Areas}
 use Rattle.order_graph.specs.Graph.{graphOn, mostNodeLinks, AtNode}

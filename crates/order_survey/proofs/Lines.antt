@@ -7,10 +7,10 @@ use native.Mathlib.Numerals.{add-one}
 use lib.ListN.{length, getD, set, replicate, length-set, length-replicate}
 use lib.Seq.{getD-set-same, getD-set-other}
 use Rattle.lists.specs.Lists.{total}
-use Rattle.model.specs.Bag.{one, count}
-use Rattle.model.specs.Object.{Link}
-use Rattle.model.specs.Graph.{Graph, kids, kidsOf, waits, reached, reachDown, Ranked, Acyclic}
-use Rattle.model.proofs.Bags.{Same, same, other, sameOr, Zero, none, some, zeroOr, one-same, count-append}
+use Rattle.model_orders.specs.Bag.{one, count}
+use Rattle.model_orders.specs.Object.{Link}
+use Rattle.model_orders.specs.Graph.{Graph, kids, kidsOf, waits, reached, reachDown, Ranked, Acyclic}
+use Rattle.model_orders.proofs.Bags.{Same, same, other, sameOr, Zero, none, some, zeroOr, one-same, count-append}
 use Rattle.order_survey.specs.Survey.{Lined, countedAll, joined, lined, unlined}
 
 counted-long : (ls : List Link) (cs : List ℕ) → length (countedAll ls cs) ≡ length cs

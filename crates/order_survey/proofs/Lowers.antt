@@ -8,7 +8,7 @@ use Rattle.regions.specs.Region.{ceiling, Kept, Filling}
 use Rattle.regions.proofs.Laws.{region-length, region-at, region-in}
 use Rattle.regions.proofs.Bounds.{ceiling-at, ceiling-least, ceiling-set, ceiling-replicate}
 use Rattle.regions.proofs.Frame.{kept-all, kept-then, kept-set, kept-less, kept-below}
-use Rattle.model.specs.Distance.{weight, relax, relaxAll, distancesBy}
+use Rattle.model_orders.specs.Distance.{weight, relax, relaxAll, distancesBy}
 use Rattle.work.specs.Views.{lineIn, distancesIn}
 use Rattle.work.specs.declared.Areas.{Areas}
 use Rattle.order_graph.specs.Graph.{graphOn, linksAfter, linkCount, EdgeOf}

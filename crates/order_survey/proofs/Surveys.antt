@@ -10,11 +10,11 @@ use Rattle.regions.specs.Region.{Kept}
 use Rattle.regions.proofs.Bounds.{ceiling-set, ceiling-replicate}
 use Rattle.regions.proofs.Laws.{region-length, region-in, region-over}
 use Rattle.regions.proofs.Frame.{kept-then, kept-set, kept-below, kept-above}
-use Rattle.model.specs.Bag.{one, count}
-use Rattle.model.specs.Graph.{Graph, waits, reached, Acyclic}
-use Rattle.model.specs.Table.{tableLength}
-use Rattle.model.proofs.Bags.{Same, same, other, sameOr}
-use Rattle.model.proofs.Reach.{reached-rooted}
+use Rattle.model_orders.specs.Bag.{one, count}
+use Rattle.model_orders.specs.Graph.{Graph, waits, reached, Acyclic}
+use Rattle.model_orders.specs.Table.{tableLength}
+use Rattle.model_orders.proofs.Bags.{Same, same, other, sameOr}
+use Rattle.model_orders.proofs.Reach.{reached-rooted}
 use Rattle.work.specs.Views.{lineIn, incomingIn}
 use Rattle.work.specs.declared.Areas.{Areas}
 use Rattle.order_graph.specs.Graph.{graphOn, Stands, AtNode}

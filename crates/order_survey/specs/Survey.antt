@@ -7,11 +7,11 @@ use lib.ListN.{getD, set, replicate}
 use lib.Dec.{eqb}
 use Rattle.regions.specs.Region.{ceiling, Kept}
 use Rattle.lists.specs.Lists.{pick}
-use Rattle.model.specs.Object.{Link}
-use Rattle.model.specs.Bag.{count}
-use Rattle.model.specs.Graph.{Graph, reached, Ranked, ParentsFirst}
-use Rattle.model.specs.Distance.{weight, Least, relax, relaxAll, distancesBy}
-use Rattle.model.specs.Table.{tableLength}
+use Rattle.model_orders.specs.Object.{Link}
+use Rattle.model_orders.specs.Bag.{count}
+use Rattle.model_orders.specs.Graph.{Graph, reached, Ranked, ParentsFirst}
+use Rattle.model_orders.specs.Distance.{weight, Least, relax, relaxAll, distancesBy}
+use Rattle.model_orders.specs.Table.{tableLength}
 use Rattle.work.specs.declared.Areas.{Areas}
 use Rattle.work.specs.Views.{lineIn, incomingIn, distancesIn}
 use Rattle.order_graph.specs.Graph.{graphOn, mostNodes, mostNodeLinks, Stands, AtNode, Counted}

@@ -9,7 +9,7 @@ ghost use mathlib.Core.Path.{_≡_};
 ghost use Prim.Native.Nat.{_+_, _≤_, _<_, min};
 ghost use Rattle.lists.specs.Lists.{total};
 ghost use Rattle.regions.specs.Region.{ceiling};
-ghost use Rattle.model.specs.Graph.{Acyclic};
+ghost use Rattle.model_orders.specs.Graph.{Acyclic};
 ghost use Rattle.work.specs.Views.{lineIn, distancesIn};
 ghost use Rattle.order_graph.specs.Graph.{graphOn, AtNode};
 ghost use Rattle.order_survey.specs.Survey.{unlined, linedOf, farAway};

@@ -9,9 +9,9 @@ use lib.Dec.{eqb, ltb, leb}
 use borrow.Author.Tests.{ltb-true, leb-true, eqb-true, eqb-false}
 use Rattle.lists.proofs.Same.{and-left, and-right}
 use Rattle.regions.proofs.Frame.{kept-then, kept-less, kept-below, kept-above}
-use Rattle.model.specs.Object.{widthOk}
-use Rattle.model.specs.Graph.{Ranked, Acyclic}
-use Rattle.model.proofs.Distances.{kid-link}
+use Rattle.model_orders.specs.Object.{widthOk}
+use Rattle.model_orders.specs.Graph.{Ranked, Acyclic}
+use Rattle.model_orders.proofs.Distances.{kid-link}
 use Rattle.work.specs.Areas.{areasOf, graphWords, areas-apart}
 use Rattle.work.specs.Packed.{packedWords}
 use Rattle.work.specs.declared.Areas.{Areas}

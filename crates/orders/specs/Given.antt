@@ -5,8 +5,8 @@ use mathlib.Core.List.{List, [], _∷_, _++_}
 use mathlib.Core.Bool.{Bool, true, _&&_}
 use lib.ListN.{length, getD, take}
 use lib.Dec.{eqb, ltb, leb}
-use Rattle.model.specs.Object.{widthOk}
-use Rattle.model.specs.Graph.{Acyclic}
+use Rattle.model_orders.specs.Object.{widthOk}
+use Rattle.model_orders.specs.Graph.{Acyclic}
 use Rattle.work.specs.Areas.{areasOf, graphWords}
 use Rattle.work.specs.Packed.{packedWords, mostHalf}
 use Rattle.work.specs.declared.Areas.{Areas}

@@ -14,17 +14,17 @@ use Rattle.answer.specs.declared.Overflow.{Overflow}
 use Rattle.answer.specs.declared.Refusal.the-variants as Refusal
 use Rattle.answer.specs.declared.Packing.{Packing}
 use Rattle.answer.specs.declared.Packing.the-variants.{Done, Refused}
-use Rattle.model.specs.Bag.{count}
-use Rattle.model.specs.Graph.{Graph, graphOf, Acyclic, Closed, Once}
-use Rattle.model.specs.Reading.{readingAt, readings}
-use Rattle.model.specs.Table.{Outcome, placed, overflow, placeOf, tableOf, FieldsIn, Fields, Sized}
-use Rattle.model.specs.Copies.{Arrangement, arranged, contentIn, tableBy}
+use Rattle.model_orders.specs.Bag.{count}
+use Rattle.model_orders.specs.Graph.{Graph, graphOf, Acyclic, Closed, Once}
+use Rattle.model_orders.specs.Reading.{readingAt, readings}
+use Rattle.model_orders.specs.Table.{Outcome, placed, overflow, placeOf, tableOf, FieldsIn, Fields, Sized}
+use Rattle.model_orders.specs.Copies.{Arrangement, arranged, contentIn, tableBy}
 use Rattle.model.specs.Judge.{mostCopies}
 use Rattle.model.specs.Session.{content, arrangedIn, tableIn}
-use Rattle.model.proofs.Bags.{total-bag}
-use Rattle.model.proofs.Growths.{Base, objects-base, GrewReads}
-use Rattle.model.proofs.Written.{table-same}
-use Rattle.model.proofs.Arrangements.{Fitting as FitsAll, arranged-chosen, chosen-fitting, arranged-reads}
+use Rattle.model_orders.proofs.Bags.{total-bag}
+use Rattle.model_orders.proofs.Growths.{Base, objects-base, GrewReads}
+use Rattle.model_orders.proofs.Written.{table-same}
+use Rattle.model_orders.proofs.Arrangements.{Fitting as FitsAll, arranged-chosen, chosen-fitting, arranged-reads}
 use Rattle.layout.specs.Words.{objectLimit, linkLimit, closedCount}
 use Rattle.layout.specs.Decode.{decode}
 use Rattle.layout.specs.Known.{Read}

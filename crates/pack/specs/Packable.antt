@@ -9,7 +9,7 @@ use Rattle.answer.specs.declared.tally.Tally.{Tally}
 use Rattle.answer.specs.declared.Refusal.the-variants as Refusal
 use Rattle.answer.specs.declared.Packing.{Packing}
 use Rattle.answer.specs.declared.Packing.the-variants.{Done, Refused}
-use Rattle.model.specs.Copies.{lengthOf}
+use Rattle.model_orders.specs.Copies.{lengthOf}
 use Rattle.model.specs.Judge.{verdict, outputShort, overflows}
 use Rattle.model.specs.Session.{arrangedIn}
 use Rattle.layout.specs.Decode.{decode}

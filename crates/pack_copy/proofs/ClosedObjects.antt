@@ -8,8 +8,8 @@ use native.Mathlib.Omega.{arith}
 use lib.ListN.{length, getD, List·getD-eq-default}
 use Rattle.lists.proofs.Runs.{drop-first}
 use Rattle.regions.specs.Region.{region}
-use Rattle.model.specs.Object.{Link, noObject, objectAt, widthOk}
-use Rattle.model.specs.Graph.{graphOf, Ranked, Acyclic}
+use Rattle.model_orders.specs.Object.{Link, noObject, objectAt, widthOk}
+use Rattle.model_orders.specs.Graph.{graphOf, Ranked, Acyclic}
 use Rattle.layout.specs.Words.{linkLimit, closedCount, beginsAt, linkBeginsAt, linkWords, linkAt, linksOf}
 use Rattle.layout.specs.Fields.{fieldsOk}
 use Rattle.layout.specs.Decode.{closedTo, decode}
@@ -18,7 +18,7 @@ use Rattle.layout.proofs.Facts.{sound-tables, sound-of}
 use Rattle.work.specs.Packed.{packedWords, Halves, packedAt}
 use Rattle.order_graph.specs.Graph.{linksFrom}
 use Rattle.pack_copy.specs.Copy.{Packs}
-use Rattle.model.proofs.Slots.{slot-wide}
+use Rattle.model_orders.proofs.Slots.{slot-wide}
 use Rattle.steps.proofs.Fields.{first-field, other-fields}
 use Rattle.steps.proofs.Formed.{sound-formed}
 use Rattle.steps.proofs.Tallies.{length-closed}

@@ -11,7 +11,7 @@ use lib.Seq.{getD-take}
 use Rattle.lists.proofs.Runs.{length-part}
 use Rattle.regions.specs.Region.{Kept}
 use Rattle.regions.proofs.Frame.{kept-then, kept-less, kept-at}
-use Rattle.model.specs.Graph.{graphOf}
+use Rattle.model_orders.specs.Graph.{graphOf}
 use Rattle.layout.specs.Words.{linkLimit, closedCount, linkBeginsAt, linkWords}
 use Rattle.layout.specs.Words as records
 use Rattle.layout.specs.Decode.{closedAt, decode}

@@ -4,7 +4,7 @@ use mathlib.Core.Path.{_≡_}
 use mathlib.Core.List.{List}
 use lib.ListN.{length, getD}
 use Rattle.regions.specs.Region.{Kept}
-use Rattle.model.specs.Graph.{graphOf, Acyclic}
+use Rattle.model_orders.specs.Graph.{graphOf, Acyclic}
 use Rattle.model.specs.Judge.{mostCopies}
 use Rattle.layout.specs.Words.{objectLimit, linkLimit, linksAt}
 use Rattle.layout.specs.Spans.{closedSpan}

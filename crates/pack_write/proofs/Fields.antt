@@ -8,8 +8,8 @@ use Rattle.lists.specs.Lists.{over}
 use Rattle.lists.proofs.Over.{length-over}
 use Rattle.big_endian.specs.BigEndian.{bigEndian}
 use Rattle.big_endian.proofs.Laws.{length-big}
-use Rattle.model.specs.Object.{Link}
-use Rattle.model.specs.Table.{filled, FieldsIn}
+use Rattle.model_orders.specs.Object.{Link}
+use Rattle.model_orders.specs.Table.{filled, FieldsIn}
 use Rattle.work.specs.Views.{placesIn}
 use Rattle.work.specs.declared.Areas.{Areas}
 use Rattle.order_graph.specs.Graph.{graphOn, linksAfter, linkCount, AtNode, FieldOf}

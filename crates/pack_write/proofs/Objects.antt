@@ -10,12 +10,12 @@ use Rattle.lists.proofs.Over.{length-over}
 use Rattle.lists.proofs.Overs.{over-then, over-lent}
 use Rattle.regions.proofs.Laws.{region-at}
 use Rattle.answer.specs.declared.ObjectId.{ObjectId}
-use Rattle.model.specs.Object.{Object}
-use Rattle.model.specs.Graph.{Graph, Closed}
-use Rattle.model.specs.Bag.{count}
-use Rattle.model.specs.Table.{placeOf, filled, objectBytes, tableFrom, tableOf, FieldsIn}
-use Rattle.model.proofs.Filled.{length-filled}
-use Rattle.model.proofs.Written.{filled-same, count-at, before-at}
+use Rattle.model_orders.specs.Object.{Object}
+use Rattle.model_orders.specs.Graph.{Graph, Closed}
+use Rattle.model_orders.specs.Bag.{count}
+use Rattle.model_orders.specs.Table.{placeOf, filled, objectBytes, tableFrom, tableOf, FieldsIn}
+use Rattle.model_orders.proofs.Filled.{length-filled}
+use Rattle.model_orders.proofs.Written.{filled-same, count-at, before-at}
 use Rattle.layout.specs.Words.{objectLimit, closedCount}
 use Rattle.layout.specs.Spans.{closedSpan, Lies}
 use Rattle.layout.specs.Known.{Tested}

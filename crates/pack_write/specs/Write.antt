@@ -4,9 +4,9 @@ use mathlib.Core.Path.{_≡_}
 use mathlib.Core.List.{List}
 use lib.ListN.{length, getD}
 use Rattle.lists.specs.Lists.{total}
-use Rattle.model.specs.Bag.{count}
-use Rattle.model.specs.Graph.{Closed, Once}
-use Rattle.model.specs.Table.{placeOf, tableOf, FieldsIn}
+use Rattle.model_orders.specs.Bag.{count}
+use Rattle.model_orders.specs.Graph.{Closed, Once}
+use Rattle.model_orders.specs.Table.{placeOf, tableOf, FieldsIn}
 use Rattle.model.specs.Session.{content}
 use Rattle.layout.specs.Decode.{decode}
 use Rattle.layout.specs.Known.{Read}

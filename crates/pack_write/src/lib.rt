@@ -11,7 +11,7 @@ ghost use mathlib.Core.Path.{_≡_};
 ghost use Prim.Native.Nat.{_≤_};
 ghost use lib.ListN.{length};
 ghost use Rattle.lists.specs.Lists.{over};
-ghost use Rattle.model.specs.Table.{filled, FieldsIn};
+ghost use Rattle.model_orders.specs.Table.{filled, FieldsIn};
 ghost use Rattle.work.specs.Views.{placesIn};
 ghost use Rattle.order_graph.specs.Graph.{graphOn, AtNode};
 ghost use Rattle.order_fit.specs.Fit.{offsetBy};

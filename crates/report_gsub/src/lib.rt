@@ -8,7 +8,7 @@ use answer::number_of;
 use gsub_read::ReadAnswer;
 use gsub_read::read_gsub;
 use layout::words::LINKS_AT;
-use model::LINK_WORDS;
+use model_orders::LINK_WORDS;
 
 // The session's limits.
 const OBJECTS: usize = 2048;

@@ -10,7 +10,7 @@ use Rattle.answer.specs.Tally.{added, released}
 use Rattle.answer.specs.declared.tally.Tally.{Tally}
 use Rattle.answer.specs.declared.Refusal.the-variants as Refusal
 use Rattle.answer.specs.declared.Closing.the-variants as Closing
-use Rattle.model.specs.Object.{Object, anyHopeless, slotsOf, hopelessObject}
+use Rattle.model_orders.specs.Object.{Object, anyHopeless, slotsOf, hopelessObject}
 use Rattle.model.specs.Judge.{verdict}
 use Rattle.layout.specs.Words.{objectLimit, closedCount, openDepth, top}
 use Rattle.layout.specs.Fields.{slotsOk}

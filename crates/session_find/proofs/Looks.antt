@@ -14,7 +14,7 @@ use Rattle.lists.proofs.Alike.{length-run, runs-differ}
 use Rattle.lists.proofs.Parts.{part-part}
 use Rattle.lists.proofs.Runs.{length-part, part-drop}
 use Rattle.lists.proofs.Tests.{same-none}
-use Rattle.model.specs.Object.{Object, noObject, sameLink, sameObject}
+use Rattle.model_orders.specs.Object.{Object, noObject, sameLink, sameObject}
 use Rattle.layout.specs.Words.{objectLimit, closedCount, openDepth, storeLength, linksAt, linkWords, need, linksOf}
 use Rattle.layout.specs.Decode.{objectIn, closedAt, closedTo}
 use Rattle.layout.specs.Known.{Read, Tested, Innermost}

@@ -6,7 +6,7 @@ use mathlib.Core.Bool.{Bool}
 use lib.ListN.{length}
 use lib.Dec.{eqb}
 use Rattle.lists.specs.Lists.{part, sameList}
-use Rattle.model.specs.Object.{Object}
+use Rattle.model_orders.specs.Object.{Object}
 use Rattle.layout.specs.Words.{objectLimit, closedCount, storeLength, linksBase, linkWords, linksOf}
 use Rattle.layout.specs.Known.{Tested}
 use Rattle.layout.specs.declared.span.Span.{Span}

@@ -4,7 +4,7 @@ use layout::span::Span;
 use layout::span::closed_span;
 use layout::state::State;
 use layout::words::LINKS_AT;
-use model::LINK_WORDS;
+use model_orders::LINK_WORDS;
 ghost use mathlib.Core.Path.{_≡_};
 ghost use Prim.Native.Nat.{_+_, _^_, _≤_, _<_};
 ghost use lib.ListN.{length};

@@ -7,8 +7,8 @@ use native.Mathlib.Omega.{arith}
 use Rattle.answer.specs.Tally.{grown}
 use Rattle.answer.specs.declared.tally.Tally.{Tally}
 use Rattle.answer.specs.declared.Answer.the-variants.{Done}
-use Rattle.model.specs.Object.{Link, widest, slotOk}
-use Rattle.model.proofs.Slots.{width-most, slot-wide}
+use Rattle.model_orders.specs.Object.{Link, widest, slotOk}
+use Rattle.model_orders.proofs.Slots.{width-most, slot-wide}
 use Rattle.layout.specs.declared.link.Link as read
 use Rattle.layout.specs.Links.{linkIn}
 use Rattle.steps.specs.Steps.{outcome, madeLink, linkWordsOf}

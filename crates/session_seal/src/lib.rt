@@ -7,7 +7,7 @@ use layout::words::LINK_BEGINS_AT;
 use layout::words::LINKS_AT;
 use layout::words::OPEN_DEPTH;
 use layout::words::set_word;
-use model::LINK_WORDS;
+use model_orders::LINK_WORDS;
 ghost use mathlib.Core.Path.{_≡_};
 ghost use mathlib.Core.Bool.{true};
 ghost use Prim.Native.Nat.{_-_, _≤_, _<_, min};

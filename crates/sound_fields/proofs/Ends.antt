@@ -11,7 +11,7 @@ use lib.Dec.{eqb, leb}
 use Rattle.lists.specs.Lists.{part, zeros}
 use Rattle.lists.proofs.Same.{and-left}
 use Rattle.lists.proofs.Tests.{zeros-first, zeros-none}
-use Rattle.model.specs.Object.{narrowest, widest, widthOk}
+use Rattle.model_orders.specs.Object.{narrowest, widest, widthOk}
 
 pub width-least : (w : ℕ) → widthOk w ≡ true → narrowest ≤ w
 width-least w e = leb-true narrowest w (and-left (leb narrowest w) (leb w widest) e)

@@ -11,8 +11,8 @@ use lib.Dec.{leb}
 use Rattle.lists.proofs.Same.{and-left, and-right}
 use Rattle.big_endian.specs.BigEndian.{capacity}
 use Rattle.big_endian.proofs.Laws.{capacity-rises}
-use Rattle.model.specs.Object.{Slot, Object, narrowest, slotOk, hopeless, anyHopeless, slotsOf, hopelessObject}
-use Rattle.model.proofs.Slots.{slot-wide}
+use Rattle.model_orders.specs.Object.{Slot, Object, narrowest, slotOk, hopeless, anyHopeless, slotsOf, hopelessObject}
+use Rattle.model_orders.proofs.Slots.{slot-wide}
 use Rattle.layout.specs.Words.{linkWords, linksOf, linkAt}
 use Rattle.layout.specs.Fields.{objectOk, closedOk, slotsOk}
 use Rattle.layout.proofs.Links.{linksOf-next}

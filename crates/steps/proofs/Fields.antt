@@ -12,10 +12,10 @@ use Rattle.lists.specs.Lists.{holds}
 use Rattle.lists.proofs.Holds.{holds-at}
 use Rattle.lists.proofs.Same.{and-left, and-right}
 use Rattle.lists.proofs.Frames.{zeros-in, zeros-of}
-use Rattle.model.specs.Object.{Link, Object, noObject, sizeOf, slotOk, withBytes, newSlot, newLink, withLink}
-use Rattle.model.specs.Table.{SlotIn}
-use Rattle.model.proofs.Slots.{slot-start}
-use Rattle.model.proofs.Filled.{slot-room}
+use Rattle.model_orders.specs.Object.{Link, Object, noObject, sizeOf, slotOk, withBytes, newSlot, newLink, withLink}
+use Rattle.model_orders.specs.Table.{SlotIn}
+use Rattle.model_orders.proofs.Slots.{slot-start}
+use Rattle.model_orders.proofs.Filled.{slot-room}
 use Rattle.layout.specs.Fields.{fieldTests, fieldsOk, objectOk}
 use Rattle.layout.proofs.FieldTests.{field-bytes}
 

@@ -8,11 +8,11 @@ use borrow.Author.Tests.{not-true}
 use lib.ListN.{length}
 use Rattle.lists.proofs.Same.{and-left, and-right}
 use Rattle.lists.proofs.Elements.{at-snoc}
-use Rattle.model.specs.Bag.{count}
-use Rattle.model.specs.Object.{Link, noObject, objectAt, hopelessObject}
-use Rattle.model.specs.Graph.{graphOf, kidsOf}
-use Rattle.model.specs.Table.{FieldsIn, Fields}
-use Rattle.model.proofs.Bags.{Same, same, other, sameOr}
+use Rattle.model_orders.specs.Bag.{count}
+use Rattle.model_orders.specs.Object.{Link, noObject, objectAt, hopelessObject}
+use Rattle.model_orders.specs.Graph.{graphOf, kidsOf}
+use Rattle.model_orders.specs.Table.{FieldsIn, Fields}
+use Rattle.model_orders.proofs.Bags.{Same, same, other, sameOr}
 use Rattle.model.proofs.Growth.{Formed, formed-none}
 use Rattle.layout.specs.Tables.{forAll}
 use Rattle.layout.specs.Fields.{fieldsOk, objectOk, closedOk}

@@ -7,7 +7,7 @@ use native.Mathlib.Omega.{arith}
 use lib.ListN.{length, getD}
 use Rattle.lists.specs.Lists.{part}
 use Rattle.lists.proofs.Frames.{part-same}
-use Rattle.model.specs.Object.{Object}
+use Rattle.model_orders.specs.Object.{Object}
 use Rattle.model.specs.Judge.{mostOpen}
 use Rattle.layout.specs.Words.{objectLimitAt, openDepthAt, objectLimit, closedCount, openDepth, endsAt, linkEndsAt, beginsAt, linkBeginsAt, linksAt, linkWords, linkLimit, limitsIn, linksOf, low, linkLow}
 use Rattle.layout.specs.Decode.{linksFrom, openAt, closedAt, opensTo, closedTo}

@@ -14,7 +14,7 @@ use Rattle.lists.proofs.Over.{length-over, over-before, over-after}
 use Rattle.lists.proofs.Frames.{part-same, part-join, part-grown, part-zeros, zeros-in}
 use Rattle.answer.specs.Tally.{grown}
 use Rattle.answer.specs.declared.tally.Tally.{Tally}
-use Rattle.model.specs.Object.{Object, Link, slotOk, withBytes, newLink, withLink}
+use Rattle.model_orders.specs.Object.{Object, Link, slotOk, withBytes, newLink, withLink}
 use Rattle.model.specs.Session.{withOpens, onInnermost}
 use Rattle.layout.specs.Words.{closedCount, openDepth, endsAt, linkEndsAt, linksAt, linkWords, linkLimit, wordsOf, linkOfWords, linksOf, top, linkTop, low, linkLow}
 use Rattle.layout.specs.Fields.{objectOk}

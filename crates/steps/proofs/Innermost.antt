@@ -9,7 +9,7 @@ use lib.ListN.{getD}
 use Rattle.lists.specs.Lists.{part, firstThat}
 use Rattle.lists.proofs.Runs.{length-part}
 use Rattle.lists.proofs.Frames.{first-most}
-use Rattle.model.specs.Object.{Object, sizeOf, hopelessObject, sameObject}
+use Rattle.model_orders.specs.Object.{Object, sizeOf, hopelessObject, sameObject}
 use Rattle.model.specs.Session.{innermost, outer, twin}
 use Rattle.layout.specs.Words.{closedCount, openDepth, endsAt, linkEndsAt, top, linkTop}
 use Rattle.layout.specs.Fields.{objectOk}

@@ -9,7 +9,7 @@ use lib.Seq.{lt-length-set, getD-set-same, getD-set-other}
 use Rattle.lists.specs.Lists.{part}
 use Rattle.lists.proofs.Frames.{zeros-in}
 use Rattle.answer.specs.Tally.{opened}
-use Rattle.model.specs.Object.{noObject}
+use Rattle.model_orders.specs.Object.{noObject}
 use Rattle.model.specs.Session.{withOpens}
 use Rattle.model.specs.Judge.{mostOpen}
 use Rattle.layout.specs.Words.{closedCountAt, openDepthAt, closedCount, openDepth, endsAt, linkEndsAt, linksOf, top, linkTop, low}

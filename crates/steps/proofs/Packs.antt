@@ -14,8 +14,8 @@ use Rattle.answer.specs.declared.Overflow.{Overflow}
 use Rattle.answer.specs.declared.Refusal.{Refusal}
 use Rattle.answer.specs.declared.Refusal.the-variants as Refusal
 use Rattle.answer.specs.declared.Packing.the-variants.{Done, Refused}
-use Rattle.model.specs.Table.{placed, overflow}
-use Rattle.model.specs.Copies.{Arrangement, lengthOf}
+use Rattle.model_orders.specs.Table.{placed, overflow}
+use Rattle.model_orders.specs.Copies.{Arrangement, lengthOf}
 use Rattle.model.specs.Judge.{mostCopies, Test, refused, verdict, outputShort, overflows}
 use Rattle.model.specs.Session.{arrangedIn, tableIn}
 use Rattle.model.proofs.Refusals.{Comes, this, next, verdict-is}

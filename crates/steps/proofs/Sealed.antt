@@ -10,7 +10,7 @@ use lib.Seq.{lt-length-set, getD-set-same, getD-set-other}
 use Rattle.lists.specs.Lists.{part, over}
 use Rattle.lists.proofs.Frames.{part-same, length-moved, moved-before, moved-after, part-moved, length-cleared, cleared-before, cleared-in, cleared-after}
 use Rattle.answer.specs.Tally.{added}
-use Rattle.model.specs.Object.{Object, hopelessObject}
+use Rattle.model_orders.specs.Object.{Object, hopelessObject}
 use Rattle.model.specs.Session.{Session, innermost, outer}
 use Rattle.layout.specs.Words.{objectLimitAt, closedCountAt, openDepthAt, objectLimit, closedCount, openDepth, endsAt, linkEndsAt, beginsAt, linkBeginsAt, linksAt, linkWords, linksOf, top, linkTop, low, linkLow}
 use Rattle.layout.specs.Fields.{closedOk}

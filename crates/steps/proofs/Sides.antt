@@ -9,7 +9,7 @@ use lib.ListN.{length, getD}
 use Rattle.lists.specs.Lists.{part}
 use Rattle.lists.proofs.Frames.{zeros-of}
 use Rattle.answer.specs.declared.tally.Tally.{Tally}
-use Rattle.model.specs.Object.{Object}
+use Rattle.model_orders.specs.Object.{Object}
 use Rattle.model.specs.Judge.{mostOpen, Limits}
 use Rattle.model.specs.Session.{Session, tallyOf}
 use Rattle.layout.specs.Words.{objectLimit, closedCount, openDepth, endsAt, linkEndsAt, beginsAt, linkBeginsAt, storeLength, linkLimit, limitsIn, top, linkTop, low, linkLow}

@@ -14,7 +14,7 @@ use Rattle.answer.specs.declared.tally.Tally.{Tally}
 use Rattle.answer.specs.declared.Refusal.{Refusal}
 use Rattle.answer.specs.declared.Refusal.the-variants as Refusal
 use Rattle.answer.specs.declared.Answer.the-variants.{Done}
-use Rattle.model.specs.Object.{sizeOf, slotOk, newSlot, hopelessObject}
+use Rattle.model_orders.specs.Object.{sizeOf, slotOk, newSlot, hopelessObject}
 use Rattle.model.specs.Judge.{mostOpen, Limits, Verdict, accepted, refused, verdict, judgeStart, judgeOpen, judgePut, judgeLink, judgeClose, judgeDrop, judgeTally}
 use Rattle.model.specs.Told.{doneClose, refusal, refusedTold}
 use Rattle.model.specs.Session.{Session, tallyOf, started, innermost, outer, twin, leaves, step}

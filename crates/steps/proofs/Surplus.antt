@@ -11,7 +11,7 @@ use lib.Dec.{leb, ltb}
 use Rattle.lists.specs.Lists.{pick, part}
 use Rattle.lists.proofs.Over.{over-drop}
 use Rattle.lists.proofs.Runs.{length-part}
-use Rattle.model.specs.Object.{Link, sizeOf, newSlot, hopelessObject}
+use Rattle.model_orders.specs.Object.{Link, sizeOf, newSlot, hopelessObject}
 use Rattle.model.specs.Judge.{Limits, Verdict, accepted, refused, Test, verdict, unsound, judgeOpen, judgePut, judgeLink, judgeClose, judgeDrop, judgeTally}
 use Rattle.model.specs.Session.{Needs, Session, tallyOf, innermost, twin, settleCall, step}
 use Rattle.model.specs.Session.{Left as AbstractLeft}

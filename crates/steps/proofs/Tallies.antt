@@ -10,7 +10,7 @@ use Rattle.lists.specs.Lists.{part, total}
 use Rattle.lists.proofs.Runs.{length-part}
 use Rattle.lists.proofs.Elements.{total-append, at-snoc}
 use Rattle.answer.specs.declared.tally.Tally.{Tally}
-use Rattle.model.specs.Object.{Object, noObject, objectAt, sizeOf, linkCount}
+use Rattle.model_orders.specs.Object.{Object, noObject, objectAt, sizeOf, linkCount}
 use Rattle.model.specs.Session.{tallyOf}
 use Rattle.layout.specs.Words.{closedCount, openDepth, endsAt, linkEndsAt, beginsAt, linkBeginsAt, linksAt, linkWords, linkLimit, limitsIn, linkArea}
 use Rattle.layout.specs.Decode.{linksFrom, openAt, closedAt, opensTo, closedTo, decode}

@@ -21,7 +21,7 @@ use Rattle.answer.specs.declared.tally.Tally.{Tally}
 use Rattle.answer.specs.declared.Refusal.{Refusal}
 use Rattle.answer.specs.declared.Refusal.the-variants as Refusal
 use Rattle.answer.specs.declared.Answer.the-variants.{Done, Refused}
-use Rattle.model.specs.Object.{Link, slotOk}
+use Rattle.model_orders.specs.Object.{Link, slotOk}
 use Rattle.model.specs.Told.{done, refusedTold}
 use Rattle.model.specs.Judge.{mostObjects, mostLinks, mostBytes, mostOpen, Verdict, accepted, refused, Test, verdict, unsound, nothingOpen, inRange}
 use Rattle.model.proofs.Refusals.{Comes, none, this, next, verdict-is}

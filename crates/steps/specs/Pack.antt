@@ -11,7 +11,7 @@ use Rattle.answer.specs.declared.Refusal.{Refusal}
 use Rattle.answer.specs.declared.PackedTable.{PackedTable}
 use Rattle.answer.specs.declared.Packing.{Packing}
 use Rattle.answer.specs.declared.Packing.the-variants.{Done, Refused}
-use Rattle.model.specs.Copies.{Arrangement, lengthOf}
+use Rattle.model_orders.specs.Copies.{Arrangement, lengthOf}
 use Rattle.model.specs.Judge.{Verdict, accepted, refused, judgePack}
 use Rattle.model.specs.Session.{arrangedIn, tableIn}
 use Rattle.layout.specs.Words.{objectLimit, linkLimit}

@@ -11,7 +11,7 @@ use Rattle.answer.specs.declared.Answer.{Answer}
 use Rattle.answer.specs.declared.Answer.the-variants.{Done, Refused}
 use Rattle.answer.specs.declared.Closing.{Closing}
 use Rattle.answer.specs.declared.Closing.the-variants as Closing
-use Rattle.model.specs.Object.{Link, Object, newSlot, hopelessObject, sameObject}
+use Rattle.model_orders.specs.Object.{Link, Object, newSlot, hopelessObject, sameObject}
 use Rattle.model.specs.Judge.{Limits, Verdict, accepted, refused, judgeStart, judgeOpen, judgePut, judgeLink, judgeClose, judgeDrop, judgeTally}
 use Rattle.layout.specs.declared.state.State.{State}
 use Rattle.layout.specs.Words.{objectLimitAt, closedCountAt, openDepthAt, closedCount, openDepth, endsAt, linkEndsAt, beginsAt, linkBeginsBase, linkBeginsAt, linksAt, linkWords, need, limitsIn, linkLimit, top, linkTop, low, linkLow, wordsOf}

@@ -3,8 +3,8 @@ use Prim.Native.Nat.{ℕ, _+_, _*_, _/_, _%_}
 use mathlib.Core.Path.{_≡_}
 use mathlib.Core.List.{List}
 use lib.ListN.{getD}
-use Rattle.model.specs.Object.{Link}
-use Rattle.model.specs.Words.{linkOfWords}
+use Rattle.model_orders.specs.Object.{Link}
+use Rattle.model_orders.specs.Words.{linkOfWords}
 
 abbrev pub packedWords : ℕ
 packedWords = 2

@@ -1,7 +1,7 @@
 -- `write_object` meets its contract: fields filled inside bytes that stand at the front of the output are filled inside the bytes.
 use mathlib.Core.Path.{_∙_}
 use Rattle.model.proofs.Growth.{fields-room}
-use Rattle.model.proofs.Written.{filled-over}
+use Rattle.model_orders.proofs.Written.{filled-over}
 use borrow.Author.Needs.{needs}
 use Rattle.pack_write.proofs.write_object.Statement.{statement}
 use Rattle.pack_write.proofs.write_object.Tie as tie

@@ -5,7 +5,7 @@ use native.Mathlib.Omega.{arith}
 use borrow.Author.Needs.{needs}
 use borrow.Author.Tests.{not-true, not-false}
 use Rattle.lists.proofs.Runs.{length-part}
-use Rattle.model.specs.Object.{anyHopeless, slotsOf}
+use Rattle.model_orders.specs.Object.{anyHopeless, slotsOf}
 use Rattle.layout.specs.Decode.{objectIn, linksFrom}
 use Rattle.layout.proofs.Facts.{own-head}
 use Rattle.layout.proofs.FieldTests.{fields-slots}

@@ -4,7 +4,7 @@ use borrow.Author.Needs.{needs}
 use mathlib.Core.Path.{sym, _∙_}
 use native.Mathlib.Omega.{arith}
 use Rattle.lists.proofs.Holds.{holds-not}
-use Rattle.model.proofs.Slots.{slot-wide, width-most}
+use Rattle.model_orders.proofs.Slots.{slot-wide, width-most}
 use Rattle.layout.specs.Fields.{fieldTests}
 use Rattle.layout.specs.Links.{linkIn}
 use Rattle.layout.proofs.FieldTests.{field-bytes}

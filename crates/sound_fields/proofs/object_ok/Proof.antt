@@ -3,7 +3,7 @@ use borrow.Author.Tests.{not-true, not-false}
 use mathlib.Core.Path.{_≡_, refl, sym, ap, _∙_}
 use Prim.Native.Nat.{_+_, _*_}
 use lib.ListN.{length, drop}
-use Rattle.model.specs.Object.{Link}
+use Rattle.model_orders.specs.Object.{Link}
 use Rattle.layout.specs.Words.{linkWords, linksOf}
 use Rattle.layout.specs.Fields.{fieldsOk}
 use Rattle.layout.proofs.FieldTests.{fields-next, fields-all}

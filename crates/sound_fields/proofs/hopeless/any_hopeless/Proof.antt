@@ -5,7 +5,7 @@ use Prim.Native.Nat.{_+_, _*_}
 use native.Mathlib.Omega.{arith}
 use borrow.Author.Needs.{needs}
 use lib.ListN.{length, drop}
-use Rattle.model.specs.Object.{Link, slotOk, hopeless, anyHopeless, slotsOf}
+use Rattle.model_orders.specs.Object.{Link, slotOk, hopeless, anyHopeless, slotsOf}
 use Rattle.layout.specs.Words.{linkWords, linksOf, linkAt}
 use Rattle.layout.specs.Fields.{slotsOk}
 use Rattle.sound_fields.proofs.Hopes.{small-hopes, hopeless-next, hopeless-none, slot-first, slots-rest}

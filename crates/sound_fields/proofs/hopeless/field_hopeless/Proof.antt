@@ -4,8 +4,8 @@ use Prim.Native.Nat.{ℕ, _+_}
 use native.Mathlib.Omega.{arith}
 use lib.Dec.{leb}
 use Rattle.big_endian.proofs.Laws.{capacity-rises}
-use Rattle.model.specs.Object.{widest}
-use Rattle.model.proofs.Slots.{width-most, slot-wide}
+use Rattle.model_orders.specs.Object.{widest}
+use Rattle.model_orders.proofs.Slots.{width-most, slot-wide}
 use Rattle.layout.specs.Links.{linkIn}
 use Rattle.sound_fields.proofs.Hopes.{sum-hopeless}
 use Rattle.sound_fields.proofs.hopeless.field_hopeless.Statement.{statement}

@@ -1,0 +1,16 @@
+pub mod Bag
+pub mod Object
+pub mod Words
+pub mod Graph
+pub mod Order
+pub mod Distance
+pub mod Labels
+pub mod Space
+pub mod Table
+pub mod Reading
+pub mod Laid
+pub mod Copies
+pub mod ObjectCases
+pub mod OrderCases
+pub mod SpaceCases
+pub mod CopyCases
