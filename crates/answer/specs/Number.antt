@@ -1,6 +1,7 @@
 -- docs/RULES.md, section 6: the number of each refusal, and the values that it comes with.
 use Prim.Native.Nat.{ℕ}
 use Rattle.answer.specs.declared.Overflow.{Overflow}
+use Rattle.answer.specs.declared.PackedTable.{PackedTable}
 use Rattle.answer.specs.declared.tally.Tally.{Tally}
 use Rattle.answer.specs.declared.Refusal.{Refusal}
 use Rattle.answer.specs.declared.Refusal.the-variants as Refusal
@@ -23,6 +24,9 @@ number Refusal.Hopeless = 16
 
 abbrev pub noOverflow : Overflow
 noOverflow = record { parent = record { 0 = 0 }; field = 0; needed = 0 }
+
+abbrev pub noTable : PackedTable
+noTable = record { length = 0; copies = 0; placed = 0 }
 
 -- only 11 names a link
 abbrev pub named : Refusal → Overflow

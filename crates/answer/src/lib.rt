@@ -3,6 +3,7 @@ mod refusals;
 mod tally;
 
 pub use refusals::named_by;
+pub use refusals::no_table;
 pub use refusals::nowhere;
 pub use refusals::number_of;
 pub use tally::Tally;
@@ -46,10 +47,11 @@ pub enum Closing {
     Refused(Refusal, Tally),
 }
 
-// A table: its length, and how many of its objects are copies.
+// A table: its length, how many of its objects are copies, and how many it has, copies among them.
 pub struct PackedTable {
     pub length: usize,
     pub copies: usize,
+    pub placed: usize,
 }
 
 // Of pack.

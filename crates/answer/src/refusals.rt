@@ -1,9 +1,10 @@
-// A refusal's number, and the link that it names.
+// A refusal's number, and the link that it names; and no table, which stands beside it.
 use crate::ObjectId;
 use crate::Overflow;
+use crate::PackedTable;
 use crate::Refusal;
 ghost use mathlib.Core.Path.{_≡_};
-ghost use Rattle.answer.specs.Number.{number, named, noOverflow};
+ghost use Rattle.answer.specs.Number.{number, named, noOverflow, noTable};
 
 // A refusal's number (docs/RULES.md, section 6).
 pub fn number_of(why: Refusal) -> u64
@@ -35,6 +36,17 @@ pub fn nowhere() -> Overflow
         parent: ObjectId(0),
         field: 0,
         needed: 0,
+    }
+}
+
+// No table was packed.
+pub fn no_table() -> PackedTable
+    ensures { λ r. ⌜ r ≡ noTable ⌝ }
+{
+    PackedTable {
+        length: 0,
+        copies: 0,
+        placed: 0,
     }
 }
 

@@ -1,4 +1,4 @@
--- docs/RULES.md, section 6 and 11.6: an answer as eleven numbers, a read's as seven.
+-- docs/RULES.md, section 6 and 11.6: an answer as twelve numbers, a read's as seven.
 use Rattle.model.specs.Told.{Told}
 use Rattle.gsub_read.specs.Read.{ReadTold}
 use Rattle.capi_answer.specs.declared.Numbers.{Numbers}
@@ -13,6 +13,7 @@ toldIn n =
       id = n .id;
       length = n .length;
       copies = n .copies;
+      placed = n .placed;
       overflow = record { parent = record { 0 = n .parent }; field = n .field; needed = n .needed };
     }
 

@@ -1,13 +1,15 @@
-// An answer as eleven numbers, a read's as seven. Values that a call does not have are 0.
+// An answer as twelve numbers, a read's as seven. Values that a call does not have are 0.
 mod reads;
 
 use answer::Answer;
 use answer::Closing;
 use answer::Overflow;
+use answer::PackedTable;
 use answer::Packing;
 use answer::Refusal;
 use answer::Tally;
 use answer::named_by;
+use answer::no_table;
 use answer::nowhere;
 use answer::number_of;
 pub use reads::ReadNumbers;
@@ -29,10 +31,11 @@ pub struct Numbers {
     pub field: u64,
     pub needed: u64,
     pub copies: u64,
+    pub placed: u64,
 }
 
-fn as_numbers(number: u64, t: Tally, id: u64, length: u64, copies: u64, o: Overflow) -> Numbers
-    ensures { λ r. ⌜ toldIn r ≡ record { number = number; tally = t; id = id; length = length; copies = copies; overflow = o } ⌝ }
+fn as_numbers(number: u64, t: Tally, id: u64, made: PackedTable, o: Overflow) -> Numbers
+    ensures { λ r. ⌜ toldIn r ≡ record { number = number; tally = t; id = id; length = made .length; copies = made .copies; placed = made .placed; overflow = o } ⌝ }
 {
     let parent = o.parent;
     Numbers {
@@ -42,25 +45,26 @@ fn as_numbers(number: u64, t: Tally, id: u64, length: u64, copies: u64, o: Overf
         objects: t.objects as u64,
         depth: t.depth as u64,
         id,
-        length,
+        length: made.length as u64,
         parent: parent.0 as u64,
         field: o.field as u64,
         needed: o.needed as u64,
-        copies,
+        copies: made.copies as u64,
+        placed: made.placed as u64,
     }
 }
 
 fn tell_refused(why: Refusal, t: Tally) -> Numbers
     ensures { λ r. ⌜ toldIn r ≡ refusedTold why t ⌝ }
 {
-    as_numbers(number_of(why), t, 0, 0, 0, named_by(why))
+    as_numbers(number_of(why), t, 0, no_table(), named_by(why))
 }
 
 pub fn tell(a: Answer) -> Numbers
     ensures { λ r. ⌜ toldIn r ≡ toldBy a ⌝ }
 {
     match a {
-        Answer::Done(t) => as_numbers(0, t, 0, 0, 0, nowhere()),
+        Answer::Done(t) => as_numbers(0, t, 0, no_table(), nowhere()),
         Answer::Refused(why, t) => tell_refused(why, t),
     }
 }
@@ -69,7 +73,7 @@ pub fn tell_close(a: Closing) -> Numbers
     ensures { λ r. ⌜ toldIn r ≡ toldByClose a ⌝ }
 {
     match a {
-        Closing::Done(id, t) => as_numbers(0, t, id.0 as u64, 0, 0, nowhere()),
+        Closing::Done(id, t) => as_numbers(0, t, id.0 as u64, no_table(), nowhere()),
         Closing::Refused(why, t) => tell_refused(why, t),
     }
 }
@@ -78,7 +82,7 @@ pub fn tell_pack(a: Packing) -> Numbers
     ensures { λ r. ⌜ toldIn r ≡ toldByPack a ⌝ }
 {
     match a {
-        Packing::Done(p, t) => as_numbers(0, t, 0, p.length as u64, p.copies as u64, nowhere()),
+        Packing::Done(p, t) => as_numbers(0, t, 0, p, nowhere()),
         Packing::Refused(why, t) => tell_refused(why, t),
     }
 }

@@ -27,7 +27,7 @@ use Rattle.steps.specs.Pack.{PackOut, packBy, packStep}
 use Rattle.steps.specs.Runs.{lentStep}
 use Rattle.steps.proofs.Tallies.{count-decode}
 use Rattle.claims.specs.Orders.{graphIn, tableOn, packTold, Admitted, Ordered, Overflows}
-use Rattle.claims.proofs.Packs.{placed-laid}
+use Rattle.claims.proofs.Packs.{placed-laid, placed-count}
 
 module _ (b w : List ℕ) (id copies : ℕ) (out work : List ℕ) where
   abbrev g : Graph
@@ -113,6 +113,7 @@ module _ (b w : List ℕ) (id copies : ℕ) (out work : List ℕ) where
       go (placed o) f (t, this h z) = absurd (omega arith)
       go (placed o) f (t, next h r) =
           let l = placed-laid b w (t .isSound) id copies (known-closed t) f in
+          let count = placed-count b w (t .isSound) id copies (known-closed t) f in
           let room = ltb-false (length out) (lengthOf c) h in
           let v = placed-accepted o t room in
           record {
@@ -121,7 +122,7 @@ module _ (b w : List ℕ) (id copies : ℕ) (out work : List ℕ) where
             order = o;
             chosen = arranged-chosen copies g n id f;
             room = omega (arith, room, l .sum);
-            told = rw (step-is, f, v, l .sum);
+            told = rw (step-is, f, v, l .sum, count);
             written = rw (step-is, f, v);
             laid = l;
           }

@@ -13,13 +13,13 @@ use Rattle.answer.specs.declared.Packing.the-variants.{Done}
 use Rattle.model_orders.specs.Graph.{Graph, graphOf, Ranked}
 use Rattle.model_orders.specs.Reading.{readingAt, readings}
 use Rattle.model_orders.specs.Table.{Outcome, placed, overflow, Fields}
-use Rattle.model_orders.specs.Copies.{Arrangement, lengthOf, tableBy}
+use Rattle.model_orders.specs.Copies.{Arrangement, lengthOf, placedOf, tableBy}
 use Rattle.model.specs.Judge.{Verdict, accepted, refused, judgePack}
 use Rattle.model.specs.Told.{donePack, refusal, toldByPack}
 use Rattle.model.specs.Session.{Session, tallyOf, PackLeft, content, arrangedIn, settlePack, pack}
 use Rattle.model_orders.specs.Laid.{LaidOut}
 use Rattle.model_orders.proofs.Growths.{Base, objects-base}
-use Rattle.model_orders.proofs.Arrangements.{arranged-laid}
+use Rattle.model_orders.proofs.Arrangements.{arranged-count, arranged-laid}
 use Rattle.model.proofs.Verdicts.{passes, refused-number}
 use Rattle.model.proofs.Fair.{fair, fair-verdict}
 use Rattle.layout.specs.Words.{objectLimit, linkLimit}
@@ -60,6 +60,9 @@ module _ (b w : List ℕ) (h : sound b w ≡ true) (id copies : ℕ) where
       → LaidOut (c .grown .graph) (c .grown .line) id (λ i. readingAt (readings (a .closed)) (c .grown .origin i)) o (tableBy (content a) (c .grown) (placed o))
   placed-laid k e = arranged-laid copies g (length (a .closed)) id base k e
 
+  pub placed-count : id < length (a .closed) → {o : List ℕ} → c .outcome ≡ placed o → length o ≡ placedOf c
+  placed-count k e = arranged-count copies g (length (a .closed)) id base k e
+
   module _ (out work : List ℕ) where
     -- the abstract verdict on an outcome
     abbrev verdictOn : Outcome → Verdict
@@ -88,9 +91,9 @@ module _ (b w : List ℕ) (h : sound b w ≡ true) (id copies : ℕ) where
     settled : (v : Verdict) (t : List ℕ) → (v ≡ accepted → length t ≡ lengthOf c) → (v ≡ accepted → lengthOf c ≤ length out)
         → ((why : Refusal) → v ≡ refused why → number why ≡ 12 → ⊥)
         → PackFollows out (settlePackStep v copies b w out work (packed (Done (tableMade c) (tallyIn b w)) (over 0 t out) (cleared copies w work)))
-        (settlePack v a (record { told = donePack (lengthOf c) (length (c .grown .copies)) (tallyOf a); table = t }))
+        (settlePack v a (record { told = donePack (lengthOf c) (length (c .grown .copies)) (placedOf c) (tallyOf a); table = t }))
     settled accepted t long fits other = record {
-      told = ap (donePack (lengthOf c) (length (c .grown .copies))) (tally-decode b w h);
+      told = ap (donePack (lengthOf c) (length (c .grown .copies)) (placedOf c)) (tally-decode b w h);
       trusted = λ e. omega arith;
       written = λ e. refl;
       long = λ e. long refl;

@@ -1,6 +1,6 @@
 -- Same root, same bytes: packs on two stores that agree with histories, of roots that read the same, are told and leave the same.
 use mathlib.Core.Path.{_≡_, refl, sym, ap, subst, _∙_}
-use Prim.Native.Nat.{ℕ, _≤_}
+use Prim.Native.Nat.{ℕ, _≤_, _<_}
 use mathlib.Core.List.{List}
 use native.Mathlib.Omega.{arith}
 use native.Mathlib.Decide.{decLe}
@@ -30,15 +30,16 @@ use Rattle.steps.proofs.Tallies.{tally-decode, count-decode, limits-decode}
 use Rattle.claims.specs.Orders.{tableOn, Admitted}
 use Rattle.claims.specs.Demand.{Agree}
 use Rattle.claims.specs.Same.{Granted, SameAnswer, packed, overflowed, SameBytes}
-use Rattle.claims.proofs.Packs.{base, placed-laid}
+use Rattle.claims.proofs.Packs.{base, placed-laid, placed-count}
 use Rattle.claims.proofs.Orders.{step-is, left-tests, placed-accepted, overflow-told}
 
 -- ---- one pack, by how its look for an order ends
 
-record Packed (t : List ℕ) (made : ℕ) (l : LentLeft) : Type 0 where
+record Packed (t : List ℕ) (made many : ℕ) (l : LentLeft) : Type 0 where
   accepted : l .told .number ≡ 0
   long : l .told .length ≡ length t
   copies : l .told .copies ≡ made
+  placed : l .told .placed ≡ many
   bytes : take (l .told .length) (l .out) ≡ t
 
 module _ (s : Stores) (id copies : ℕ) (out work : List ℕ) where
@@ -55,15 +56,17 @@ module _ (s : Stores) (id copies : ℕ) (out work : List ℕ) where
   left = lentStep (pack id copies out work) s
 
   placed-packed : Admitted b w id copies out work → {o : List ℕ} → c .outcome ≡ placed o → (left .told .number ≡ 10 → ⊥)
-      → Packed (tableOn b w id copies out work (c .grown) o) (length (c .grown .copies)) left
+      → Packed (tableOn b w id copies out work (c .grown) o) (length (c .grown .copies)) (length o) left
   unfolding lentStep verdict
   placed-packed t {o} f n = go (decLe (lengthOf c) (length out))
     where
-      go : Dec (lengthOf c ≤ length out) → Packed (tableOn b w id copies out work (c .grown) o) (length (c .grown .copies)) left
+      go : Dec (lengthOf c ≤ length out) → Packed (tableOn b w id copies out work (c .grown) o) (length (c .grown .copies)) (length o) left
       go (yes m) =
-          let long = placed-laid b w (t .isSound) id copies (omega (arith, t .known, count-decode b w)) f .sum in
+          let known : id < length (decode b w .closed) = omega (arith, t .known, count-decode b w) in
+          let long = placed-laid b w (t .isSound) id copies known f .sum in
+          let count = placed-count b w (t .isSound) id copies known f in
           rw (step-is b w id copies out work, f, placed-accepted b w id copies out work o t m)
-          record { accepted = refl; long = sym long; copies = refl; bytes = rw (← long) (over-front _ out) }
+          record { accepted = refl; long = sym long; copies = refl; placed = sym count; bytes = rw (← long) (over-front _ out) }
       go (no m) = absurd (n (rw (step-is b w id copies out work, f, left-tests b w id copies out work (placed o) t, lt-ltb (length out) (lengthOf c) (omega (arith, m)))))
 
   overflow-packed : Admitted b w id copies out work → {u : Overflow} → c .outcome ≡ overflow u → (left .told .number ≡ 11) × (left .told .overflow ≡ u)
@@ -121,7 +124,7 @@ module _ {bytes words bytes′ words′ : ℕ} {s s′ : Stores} {h h′ : Histo
     where
       go : SameEnd (ReadAlike (ρ k) (ρ k′) (length (held k .closed)) (length (held k′ .closed))) (content (held k)) (content (held k′)) (arrangedIn (held k) id copies) (arrangedIn (held k′) id′ copies)
           → SameAnswer h h′ (lentStep (pack id copies out work) s) (lentStep (pack id′ copies out′ work′) s′)
-      go (tables f f′ t n) =
+      go (tables f f′ t m n) =
           let p = placed-packed s id copies out work (admitted k out g) f (g .room) in
           let q = placed-packed s′ id′ copies out′ work′ (admitted k′ out′ g′) f′ (g′ .room) in
           packed record {
@@ -129,6 +132,7 @@ module _ {bytes words bytes′ words′ : ℕ} {s s′ : Stores} {h h′ : Histo
             accepted′ = q .accepted;
             lengths = p .long ∙ ap length t ∙ sym (q .long);
             copies = p .copies ∙ all2-length n ∙ sym (q .copies);
+            placed = p .placed ∙ m ∙ sym (q .placed);
             bytes = p .bytes ∙ t ∙ sym (q .bytes);
           }
       go (overflows {u = u} {v = v} f f′ t n) =

@@ -39,7 +39,7 @@ pub record Table (h : History) (root : ℕ) (out : List ℕ) (l : LentLeft) : Ty
   pub room : l .told .length ≤ length out
   pub shown : Shows (take (l .told .length) (l .out)) 0 (readingAt (h .closed) root)
   pub rest : drop (l .told .length) (l .out) ≡ drop (l .told .length) out
-  pub sum : Lengthened (readingAt (h .closed) root) (l .told .length) (l .told .copies)
+  pub sum : Lengthened (readingAt (h .closed) root) (l .told .length) (l .told .copies) (l .told .placed)
 
 pub record PackClaim (h : History) (root : ℕ) (out : List ℕ) (l : LentLeft) : Type 0 where
   pub counted : l .told .tally ≡ pick (noTallyBeside (l .told .number)) noTally (counts h)

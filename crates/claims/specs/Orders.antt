@@ -40,7 +40,7 @@ module _ (b w : List ℕ) (id copies : ℕ) (out work : List ℕ) where
     pub noneOpen : openDepth w ≡ 0
     pub known : id < closedCount w
 
-  -- an accepted pack: the graph with its copies and its order; the table in front of the output, the table's length and the copies told; and what the
+  -- an accepted pack: the graph with its copies and its order; the table in front of the output, the table's length, the copies and the order's length told; and what the
   -- table shows: each node its object's reading, each field leading to its child's or a copy's place, which lies later
   pub record Ordered : Type 0 where
     pub admitted : Admitted
@@ -48,7 +48,7 @@ module _ (b w : List ℕ) (id copies : ℕ) (out work : List ℕ) where
     pub order : List ℕ
     pub chosen : Chosen copies graphIn (length (decode b w .closed)) id grown order
     pub room : length (tableOn grown order) ≤ length out
-    pub told : packTold ≡ donePack (length (tableOn grown order)) (length (grown .copies)) (tallyIn b w)
+    pub told : packTold ≡ donePack (length (tableOn grown order)) (length (grown .copies)) (length order) (tallyIn b w)
     pub written : lentStep (pack id copies out work) (stores b w) .out ≡ over 0 (tableOn grown order) out
     pub laid :
         LaidOut (grown .graph) (grown .line) id (λ i. readingAt (readings (decode b w .closed)) (grown .origin i)) order (tableOn grown order)

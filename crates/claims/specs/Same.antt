@@ -21,12 +21,13 @@ pub record Granted (h : History) (id copies : ℕ) (work : List ℕ) (l : LentLe
 
 -- ---- what two such packs are told and leave
 
--- both are accepted, with the same length, as many copies and the same bytes
+-- both are accepted, with the same length, as many copies, as many objects and the same bytes
 pub record SameTable (l l′ : LentLeft) : Type 0 where
   pub accepted : l .told .number ≡ 0
   pub accepted′ : l′ .told .number ≡ 0
   pub lengths : l .told .length ≡ l′ .told .length
   pub copies : l .told .copies ≡ l′ .told .copies
+  pub placed : l .told .placed ≡ l′ .told .placed
   pub bytes : take (l .told .length) (l .out) ≡ take (l′ .told .length) (l′ .out)
 
 -- both are told an overflow, with the same field and the same needed offset; the ids named read the same

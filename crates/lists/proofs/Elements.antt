@@ -36,6 +36,11 @@ module _ {A : Type 0} where
   total-append f [] b = omega arith
   total-append f (x ∷ a) b = omega (arith, total-append f a b)
 
+  pub total-ones : (l : List A) → total (λ x. 1) l ≡ length l
+  unfolding total
+  total-ones [] = refl
+  total-ones (x ∷ l) = omega (arith, total-ones l)
+
   pub total-map : {B : Type 0} (f : B → ℕ) (g : A → B) (h : A → ℕ) → ((x : A) → f (g x) ≡ h x) → (l : List A) → total f (map g l) ≡ total h l
   unfolding total
   total-map f g h e [] = refl

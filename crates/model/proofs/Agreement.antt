@@ -12,7 +12,7 @@ use Rattle.model_orders.specs.Bag.{count}
 use Rattle.model_orders.specs.Object.{noObject, sizeOf, withBytes, slotOk, newSlot, withLink, hopelessObject}
 use Rattle.model_orders.specs.Graph.{Graph, graphOf, reached}
 use Rattle.model_orders.specs.Table.{Outcome, placed, overflow}
-use Rattle.model_orders.specs.Copies.{Arrangement, lengthOf, tableBy}
+use Rattle.model_orders.specs.Copies.{Arrangement, lengthOf, placedOf, tableBy}
 use Rattle.model_orders.specs.Reading.{Reading, readingAt, readings}
 use Rattle.model.specs.Judge.{Limits, Verdict, accepted, refused, noTallyBeside, judgeStart, judgeOpen, judgePut, judgeLink, judgeClose, judgeDrop, judgeTally, judgePack}
 use Rattle.model.specs.Told.{doneClose, donePack, refusal}
@@ -83,7 +83,7 @@ module _ {s : Session} {h : History} (m : Mirrors s h) (id copies : ℕ) where
 
   -- an accepted pack that leaves table t
   abbrev packing : List ℕ → PackLeft
-  packing t = record { told = donePack (lengthOf c) (length (c .grown .copies)) (tallyOf s); table = t }
+  packing t = record { told = donePack (lengthOf c) (length (c .grown .copies)) (placedOf c) (tallyOf s); table = t }
 
   base : Base g (content s) ρ (length (s .closed))
   base = objects-base (s .closed) (mirrors-acyclic m) (mirrors-fields m)

@@ -159,7 +159,7 @@ expected n c h = tell (judged n c h) (counts h) (doneClose (idTold c h) (counts 
 pub record Packed (h : History) (root : ℕ) (p : PackLeft) : Type 0 where
   pub shown : Shows (p .table) 0 (readingAt (h .closed) root)
   pub long : length (p .table) ≡ p .told .length
-  pub sum : Lengthened (readingAt (h .closed) root) (p .told .length) (p .told .copies)
+  pub sum : Lengthened (readingAt (h .closed) root) (p .told .length) (p .told .copies) (p .told .placed)
 
 -- the tally beside a pack's number is the history's, but zero beside 12 and 13
 pub record PackAgrees (h : History) (root : ℕ) (p : PackLeft) : Type 0 where

@@ -8,7 +8,7 @@ use Rattle.lists.specs.Lists.{pick, total, firstThat}
 use Rattle.answer.specs.declared.tally.Tally.{Tally}
 use Rattle.model_orders.specs.Object.{Object, noObject, objectAt, sizeOf, linkCount, withBytes, newSlot, withLink, hopelessObject, sameObject}
 use Rattle.model_orders.specs.Graph.{graphOf}
-use Rattle.model_orders.specs.Copies.{Arrangement, arranged, lengthOf, tableBy}
+use Rattle.model_orders.specs.Copies.{Arrangement, arranged, lengthOf, placedOf, tableBy}
 use Rattle.model.specs.Judge.{Limits, Verdict, accepted, refused, judgeStart, judgeOpen, judgePut, judgeLink, judgeClose, judgeDrop, judgeTally, judgePack}
 use Rattle.model.specs.Told.{Told, done, doneClose, donePack, refusal}
 
@@ -127,7 +127,7 @@ unfoldable pub pack : Needs → ℕ → ℕ → ℕ → ℕ → Session → Pack
 pack n id copies out work s =
     let c = arrangedIn s id copies in
     settlePack (judgePack true (tallyOf s) id copies work (n .work (s .limits) copies) out (lengthOf c) (c .outcome)) s
-    (record { told = donePack (lengthOf c) (length (c .grown .copies)) (tallyOf s); table = tableIn s c })
+    (record { told = donePack (lengthOf c) (length (c .grown .copies)) (placedOf c) (tallyOf s); table = tableIn s c })
 
 -- ---- the eight calls
 

@@ -3,6 +3,7 @@ use mathlib.Core.Path.{_≡_, refl, sym, ap, subst, _∙_}
 use Prim.Native.Nat.{ℕ, _<_}
 use mathlib.Core.List.{List, [], _∷_}
 use native.Mathlib.Omega.{arith}
+use lib.ListN.{length}
 use Rattle.answer.specs.declared.Overflow.{Overflow}
 use Rattle.model_orders.specs.Bag.{count}
 use Rattle.model_orders.specs.Graph.{Graph, ParentsFirst}
@@ -11,7 +12,8 @@ use Rattle.model_orders.specs.Space.{spaceIn}
 use Rattle.model_orders.specs.Table.{unfit, placed, overflow, Sized}
 use Rattle.model_orders.specs.Reading.{Reading}
 use Rattle.model_orders.specs.Laid.{LaidOut}
-use Rattle.model_orders.specs.Copies.{Grown, ungrown, grownKey, spaceOrder, Arrangement, fitting, tryOrder, resolve, arranged, contentIn, tableBy, Unfit, Chosen, Unresolved}
+use Rattle.model_orders.specs.Copies.{Grown, ungrown, grownKey, spaceOrder, Arrangement, fitting, tryOrder, resolve, arranged, placedOf, contentIn, tableBy, Unfit, Chosen, Unresolved}
+use Rattle.model_orders.proofs.Bags.{bag-long}
 use Rattle.model_orders.proofs.Orders.{order-counts, order-first, orderBy-once, orderBy-first}
 use Rattle.model_orders.proofs.Tables.{layout}
 use Rattle.model_orders.proofs.Growths.{Base, GrewReads, ungrown-reads}
@@ -115,6 +117,9 @@ module _ (k : ℕ) (g : Graph) (n root : ℕ) where
 
     pub arranged-reads : {o : List ℕ} → arranged k g n root .outcome ≡ placed o → GrewReads g content ρ root (arranged k g n root .grown)
     arranged-reads e = chosen-reads (arranged-chosen e)
+
+    pub arranged-count : {o : List ℕ} → arranged k g n root .outcome ≡ placed o → length o ≡ placedOf (arranged k g n root)
+    arranged-count {o} e = bag-long o (arranged k g n root .grown .line) (chosen-fitting (arranged-chosen e) .once)
 
     -- its table
     pub arranged-laid : {o : List ℕ} → arranged k g n root .outcome ≡ placed o

@@ -9,6 +9,7 @@ use lib.ListN.{length}
 use lib.Dec.{eqb}
 use borrow.Author.Tests.{eq-eqb, ne-eqb, ltb-true, ltb-false}
 use Rattle.lists.specs.Lists.{pick, total}
+use Rattle.lists.proofs.Elements.{total-ones}
 use Rattle.model_orders.specs.Bag.{one, count, without, zerosOf, lastOnce, leads, least, FirstLeast}
 
 pub one-same : (x : ℕ) → one x x ≡ 1
@@ -160,11 +161,6 @@ total-bag f [] (y ∷ m) h = absurd (omega (arith, h y, one-same y))
 total-bag f (x ∷ l) m h =
     let k : 0 < count x m = omega (arith, h x, one-same x) in
     omega (arith, total-without f x m k, total-bag f l (without x m) (λ c. omega (arith, count-without c x m, h c)))
-
-total-ones : (l : List ℕ) → total (λ x. 1) l ≡ length l
-unfolding total
-total-ones [] = refl
-total-ones (x ∷ l) = omega (arith, total-ones l)
 
 -- and they are as long as each other
 pub bag-long : (l m : List ℕ) → ((c : ℕ) → count c l ≡ count c m) → length l ≡ length m

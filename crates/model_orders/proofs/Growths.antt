@@ -9,6 +9,7 @@ use lib.ListN.{length, List·getD-eq-default}
 use lib.Dec.{eqb}
 use borrow.Author.Tests.{eq-eqb, ne-eqb}
 use Rattle.lists.specs.Lists.{pick, total}
+use Rattle.lists.proofs.Elements.{total-ones}
 use Rattle.answer.specs.declared.Overflow.{Overflow}
 use Rattle.model_orders.specs.Bag.{one, count}
 use Rattle.model_orders.specs.Object.{Object, noObject, objectAt}
@@ -184,11 +185,6 @@ module _ {g : Graph} {root : ℕ} where
 
 -- ---- what follows
 
-length-total : (l : List ℕ) → total (λ i. 1) l ≡ length l
-unfolding total
-length-total [] = refl
-length-total (x ∷ l) = omega (arith, length-total l)
-
 module _ {g : Graph} {root : ℕ} {w : Grown} (v : Grew g root w) where
   -- the sizes are those of the objects and of the copies
   pub grew-length : total (w .graph .size) (w .line) ≡ total (g .size) (reached g root) + total (g .size) (w .copies)
@@ -200,7 +196,7 @@ module _ {g : Graph} {root : ℕ} {w : Grown} (v : Grew g root w) where
       total-ext (λ i. length (w .graph .links i)) (λ i. length (g .links (w .origin i))) (w .line) (λ i h. v .linked i) ∙ v .sum (λ i. length (g .links i))
 
   pub grew-nodes : length (w .line) ≡ length (reached g root) + length (w .copies)
-  grew-nodes = omega (arith, v .sum (λ i. 1), length-total (w .line), length-total (reached g root), length-total (w .copies))
+  grew-nodes = omega (arith, v .sum (λ i. 1), total-ones (w .line), total-ones (reached g root), total-ones (w .copies))
 
   -- distances along the line are the least sums
   pub along-least : (c : ℕ) → 0 < count c (w .line) → Least (w .graph) (weight (w .graph)) root c (distanceAlong (w .graph) (w .line) (w .next) root c)

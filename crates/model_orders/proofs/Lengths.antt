@@ -7,19 +7,20 @@ use mathlib.Core.Logic.{_⊎_, inl, inr}
 use native.Mathlib.Omega.{arith}
 use lib.ListN.{length, length-map}
 use Rattle.lists.specs.Lists.{pick, total}
+use Rattle.lists.proofs.Elements.{total-ones}
 use Rattle.model_orders.specs.Bag.{count, without}
 use Rattle.model_orders.specs.Object.{Link}
 use Rattle.model_orders.specs.Graph.{Graph, kidsOf, reached, Ranked, Closed, Once, Rooted}
 use Rattle.model_orders.specs.Distance.{In, here, there, Path, start, along}
 use Rattle.model_orders.specs.Reading.{Reading, bytes, field, readingSize, readLinks, Reads, sameReading, below, among, different, Lengthened}
 use Rattle.model_orders.specs.Table.{Sized}
-use Rattle.model_orders.specs.Copies.{Arrangement, lengthOf}
+use Rattle.model_orders.specs.Copies.{Arrangement, lengthOf, placedOf}
 use Rattle.model_orders.proofs.Bags.{Same, same, other, sameOr, one-same, count-without, total-without}
 use Rattle.model_orders.proofs.Reach.{reached-rooted}
 use Rattle.model_orders.proofs.Distances.{in-path}
 use Rattle.model_orders.proofs.SameReading.{reading-equal, reading-self}
 use Rattle.model_orders.proofs.Tables.{read-bytes}
-use Rattle.model_orders.proofs.Growths.{Base, Grew, grew-length, copies-reached}
+use Rattle.model_orders.proofs.Growths.{Base, Grew, grew-length, grew-nodes, copies-reached}
 
 -- ---- among, different
 
@@ -103,7 +104,7 @@ link-below ρ l (m ∷ ls) b (there i) = Memᴰ·append-right (ρ (m .child) ∷
 -- ---- the sum
 
 module _ (g : Graph) (content : ℕ → List ℕ) (ρ : ℕ → Reading) (sized : Sized g content) (reads : Reads g content ρ) where
-  size-read : (c : ℕ) → readingSize (ρ c) ≡ g .size c
+  pub size-read : (c : ℕ) → readingSize (ρ c) ≡ g .size c
   unfolding Reads Sized
   size-read c = ap (λ (r : Reading). readingSize r) (reads c) ∙ ap length (read-bytes ρ (g .links c) (content c)) ∙ sized c
 
@@ -146,25 +147,25 @@ module _ (g : Graph) (content : ℕ → List ℕ) (ρ : ℕ → Reading) (sized 
       go (inl f) = Memᴰ·cast (ap ρ e) (subst (λ (z : Reading). Has (ρ (l .child)) (below z)) f child)
       go (inr m) = Memᴰ·cast (ap ρ e) (below-below (ρ (l .child)) (ρ p) (ρ root) m child)
 
-  -- objects and different readings, paired off
-  pub sums : (ds : List Reading) → Apart ds → (nodes : List ℕ) → Once nodes → ((a b : ℕ) → 0 < count a nodes → 0 < count b nodes → ρ a ≡ ρ b → a ≡ b)
-      → ((c : ℕ) → 0 < count c nodes → Has (ρ c) ds) → ((r : Reading) → Has r ds → (c : ℕ) × (0 < count c nodes) × (r ≡ ρ c)) → total (g .size) nodes ≡ total readingSize ds
+  -- objects and different readings, paired off; f counts of an object what m counts of its reading
+  pub sums : (f : ℕ → ℕ) (m : Reading → ℕ) → ((i : ℕ) → f i ≡ m (ρ i)) → (ds : List Reading) → Apart ds → (nodes : List ℕ) → Once nodes → ((a b : ℕ) → 0 < count a nodes → 0 < count b nodes → ρ a ≡ ρ b → a ≡ b)
+      → ((c : ℕ) → 0 < count c nodes → Has (ρ c) ds) → ((r : Reading) → Has r ds → (c : ℕ) × (0 < count c nodes) × (r ≡ ρ c)) → total f nodes ≡ total m ds
   unfolding total count Once
-  sums [] ap0 [] o inj f b = refl
-  sums [] ap0 (x ∷ nodes) o inj f b = absurd (List·Memᴰ·not-nil (f x (omega (arith, one-same x))))
-  sums (r ∷ ds) (more n ap1) nodes o inj f b =
+  sums f m alike [] ap0 [] o inj has b = refl
+  sums f m alike [] ap0 (x ∷ nodes) o inj has b = absurd (List·Memᴰ·not-nil (has x (omega (arith, one-same x))))
+  sums f m alike (r ∷ ds) (more n ap1) nodes o inj has b =
       let q = b r (List·Memᴰ·head refl) in
       omega (
         arith,
-        total-without (g .size) (q .0) nodes (q .1),
-        size-read (q .0),
-        ap (λ (z : Reading). readingSize z) (q .2),
-        sums ds ap1 (without (q .0) nodes) (λ c. omega (arith, count-without c (q .0) nodes, o c))
+        total-without f (q .0) nodes (q .1),
+        alike (q .0),
+        ap m (q .2),
+        sums f m alike ds ap1 (without (q .0) nodes) (λ c. omega (arith, count-without c (q .0) nodes, o c))
             (λ x y h k. inj x y (omega (arith, count-without x (q .0) nodes)) (omega (arith, count-without y (q .0) nodes))) (fore q) (back q),
       )
     where
       fore : (q : (c : ℕ) × (0 < count c nodes) × (r ≡ ρ c)) → (c : ℕ) → 0 < count c (without (q .0) nodes) → Has (ρ c) ds
-      fore q c h = cut (List·Memᴰ·cases-cons (f c (omega (arith, count-without c (q .0) nodes))))
+      fore q c h = cut (List·Memᴰ·cases-cons (has c (omega (arith, count-without c (q .0) nodes))))
         where
           cut : (ρ c ≡ r) ⊎ Has (ρ c) ds → Has (ρ c) ds
           cut (inr m) = m
@@ -184,11 +185,12 @@ pub placed-below : (rank : ℕ → ℕ) (g : Graph) (content : ℕ → List ℕ)
     → (c : ℕ) → 0 < count c nodes → Has (ρ c) (ρ root ∷ below (ρ root))
 placed-below rank g content ρ nodes root y r sized reads c h = path-below g content ρ sized reads (λ l. 0) root (in-path g (λ l. 0) nodes root r rank y c h .1)
 
--- where objects that read differently have different ids, the sum of the sizes is that of the different readings
-pub length-different : (rank : ℕ → ℕ) (g : Graph) (content : ℕ → List ℕ) (ρ : ℕ → Reading) (nodes : List ℕ) (root : ℕ) → Ranked rank g → Rooted g nodes root → Sized g content → Reads g content ρ
-    → ((a b : ℕ) → 0 < count a nodes → 0 < count b nodes → ρ a ≡ ρ b → a ≡ b) → total (g .size) nodes ≡ total readingSize (different (ρ root ∷ below (ρ root)))
-length-different rank g content ρ nodes root y r sized reads inj =
-    sums g content ρ sized reads (different (ρ root ∷ below (ρ root))) (different-apart (ρ root ∷ below (ρ root))) nodes (r .once) inj
+-- where objects that read differently have different ids, sums over objects to place are those over the different readings
+pub sum-different : (rank : ℕ → ℕ) (g : Graph) (content : ℕ → List ℕ) (ρ : ℕ → Reading) (nodes : List ℕ) (root : ℕ) → Ranked rank g → Rooted g nodes root → Sized g content → Reads g content ρ
+    → ((a b : ℕ) → 0 < count a nodes → 0 < count b nodes → ρ a ≡ ρ b → a ≡ b) → (f : ℕ → ℕ) (m : Reading → ℕ) → ((i : ℕ) → f i ≡ m (ρ i))
+    → total f nodes ≡ total m (different (ρ root ∷ below (ρ root)))
+sum-different rank g content ρ nodes root y r sized reads inj f m alike =
+    sums g content ρ sized reads f m alike (different (ρ root ∷ below (ρ root))) (different-apart (ρ root ∷ below (ρ root))) nodes (r .once) inj
     (λ c h. different-has (ρ c) _ (placed-below rank g content ρ nodes root y r sized reads c h))
     (λ s h. from s (List·Memᴰ·cases-cons (different-from s (ρ root ∷ below (ρ root)) h)))
   where
@@ -208,18 +210,21 @@ mapped-in ρ (x ∷ l) t h r m = go (mapped-in ρ l t (λ i k. h i (omega arith)
     go i (inl e) = Memᴰ·cast e (h x (omega (arith, one-same x)))
     go i (inr n) = i n
 
--- the table's length, where reached objects that read the same are the same
+-- the table's length and how many objects it has, where reached objects that read the same are the same
 pub lengthened : {g : Graph} {content : ℕ → List ℕ} {ρ : ℕ → Reading} {n root : ℕ} → Base g content ρ n → (c : Arrangement) → Grew g root (c .grown)
-    → ((a b : ℕ) → 0 < count a (reached g root) → 0 < count b (reached g root) → ρ a ≡ ρ b → a ≡ b) → Lengthened (ρ root) (lengthOf c) (length (c .grown .copies))
+    → ((a b : ℕ) → 0 < count a (reached g root) → 0 < count b (reached g root) → ρ a ≡ ρ b → a ≡ b) → Lengthened (ρ root) (lengthOf c) (length (c .grown .copies)) (placedOf c)
 lengthened {g} {content} {ρ} {n} {root} base c v inj =
     let y = base .acyclic in
     let r = reached-rooted g root y in
+    let sums = sum-different (λ i. i) g content ρ (reached g root) root y r (base .sized) (base .reads) inj in
+    let ones = sums (λ i. 1) (λ i. 1) (λ i. refl) in
     record {
       made = map ρ (c .grown .copies);
       each = mapped-in ρ (c .grown .copies) _ (λ i x. placed-below (λ i. i) g content ρ (reached g root) root y r (base .sized) (base .reads) i (copies-reached v i x));
       count = length-map (c .grown .copies) ρ;
       sum =
           grew-length v
-          ∙ ap₂ _+_ (length-different (λ i. i) g content ρ (reached g root) root y r (base .sized) (base .reads) inj)
+          ∙ ap₂ _+_ (sums (g .size) readingSize (λ i. sym (size-read g content ρ (base .sized) (base .reads) i)))
           (sym (total-read g content ρ (base .sized) (base .reads) (c .grown .copies)));
+      objects = omega (arith, grew-nodes v, ones, total-ones (reached g root), total-ones (different (ρ root ∷ below (ρ root))));
     }

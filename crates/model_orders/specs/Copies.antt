@@ -5,6 +5,7 @@ use mathlib.Core.Path.{_≡_}
 use mathlib.Core.List.{List, [], _∷_}
 use mathlib.Core.Bool.{Bool, true, false}
 use mathlib.Core.Logic.{_⊎_}
+use lib.ListN.{length}
 use lib.Dec.{eqb, ltb}
 use Rattle.lists.specs.Lists.{pick, total}
 use Rattle.answer.specs.declared.Overflow.{Overflow}
@@ -133,6 +134,10 @@ arranged k g n root =
 -- the sizes of all nodes to place
 abbrev pub lengthOf : Arrangement → ℕ
 lengthOf c = total (c .grown .graph .size) (c .grown .line)
+
+-- how many they are
+abbrev pub placedOf : Arrangement → ℕ
+placedOf c = length (c .grown .line)
 
 -- `content` gives each object's bytes; a copy has its original's
 abbrev pub contentIn : (ℕ → List ℕ) → Grown → ℕ → List ℕ

@@ -117,9 +117,11 @@ unfoldable pub different : List Reading → List Reading
 different [] = []
 different (r ∷ l) = pick (among r l) (different l) (r ∷ different l)
 
--- the length of a table: that of the different readings among the root's and those below it, and that of the copies made, which are among them too
-pub record Lengthened (root : Reading) (size copies : ℕ) : Type 0 where
+-- the length of a table: that of the different readings among the root's and those below it, and that of the copies made, which are among them too;
+-- and how many objects it has
+pub record Lengthened (root : Reading) (size copies placed : ℕ) : Type 0 where
   pub made : List Reading
   pub each : (r : Reading) → List·Memᴰ r made → List·Memᴰ r (root ∷ below root)
   pub count : length made ≡ copies
   pub sum : size ≡ total readingSize (different (root ∷ below root)) + total readingSize made
+  pub objects : placed ≡ length (different (root ∷ below root)) + copies

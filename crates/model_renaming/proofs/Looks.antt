@@ -20,7 +20,7 @@ use Rattle.model_orders.proofs.Reports.{unfit-head}
 use Rattle.model_orders.proofs.Growths.{Grew, Curable, copyable, new-out, child-here, grow-grew, along-least}
 use Rattle.model_orders.proofs.Resolving.{resolve-placed, resolve-next, resolve-alone, resolve-spent, report-curable}
 use Rattle.model_renaming.specs.Renaming.{All2, cons, SameField, SameEnd, tables, overflows}
-use Rattle.model_renaming.proofs.Renaming.{Unfits, unfit-rel, table-rel}
+use Rattle.model_renaming.proofs.Renaming.{all2-length, Unfits, unfit-rel, table-rel}
 use Rattle.model_renaming.proofs.Pairs.{Paired, waits-paired, order-paired, least-paired}
 use Rattle.model_renaming.proofs.CopyPairs.{child-rel, Plus, kept, new, child-paired, away-left, away-right, copy-paired}
 
@@ -37,7 +37,7 @@ module _ {S : ℕ → ℕ → Type 0} {content content′ : ℕ → List ℕ} (c
   pub placed-same : {w z : Grown} {R : ℕ → ℕ → Type 0} → Twins S root root′ w z R → {o o′ : List ℕ} → All2 R o o′ → SameEnd S content content′ (fitting w o) (fitting z o′)
   unfolding tableBy
   placed-same {w} {z} t s =
-      tables refl refl (table-rel (t .paired .renames) (contentIn content w) (contentIn content′ z) (λ a b r. contents (w .origin a) (z .origin b) (t .origins a b r)) s) (t .copies)
+      tables refl refl (table-rel (t .paired .renames) (contentIn content w) (contentIn content′ z) (λ a b r. contents (w .origin a) (z .origin b) (t .origins a b r)) s) (all2-length s) (t .copies)
 
   failing-same : {w z : Grown} {R : ℕ → ℕ → Type 0} → Twins S root root′ w z R → {u v : Overflow} → SameField R u v → SameEnd S content content′ (failing w u) (failing z v)
   failing-same t {u} {v} a =

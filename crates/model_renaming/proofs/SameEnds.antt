@@ -71,7 +71,7 @@ module _ {g h : Graph} {n n′ root root′ : ℕ} (o : Numbered g n) (o′ : Nu
 
 -- pairs that are pairs of another kind
 end-then : {R S : ℕ → ℕ → Type 0} {content content′ : ℕ → List ℕ} {c d : Arrangement} → ((a b : ℕ) → R a b → S a b) → SameEnd R content content′ c d → SameEnd S content content′ c d
-end-then f (tables p q e a) = tables p q e (all2-then f a)
+end-then f (tables p q e n a) = tables p q e n (all2-then f a)
 end-then f (overflows {u = u} {v = v} p q e a) =
     overflows p q (record { parent = f (u .parent .0) (v .parent .0) (e .parent); field = e .field; needed = e .needed }) (all2-then f a)
 

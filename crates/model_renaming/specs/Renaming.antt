@@ -2,6 +2,7 @@
 use Prim.Native.Nat.{ℕ, _<_}
 use mathlib.Core.Path.{_≡_}
 use mathlib.Core.List.{List, [], _∷_}
+use lib.ListN.{length}
 use lib.Dec.{eqb}
 use Rattle.answer.specs.declared.Overflow.{Overflow}
 use Rattle.model_orders.specs.Object.{Link}
@@ -38,10 +39,10 @@ pub record SameField (R : ℕ → ℕ → Type 0) (u v : Overflow) : Type 0 wher
   pub field : u .field ≡ v .field
   pub needed : u .needed ≡ v .needed
 
--- two ends of a look: the same table, or overflows at the same place that need the same offset; and copies of paired objects
+-- two ends of a look: the same table of as many nodes, or overflows at the same place that need the same offset; and copies of paired objects
 pub data SameEnd (R : ℕ → ℕ → Type 0) (content content′ : ℕ → List ℕ) (c d : Arrangement) : Type 0 where
   tables : {o o′ : List ℕ} → c .outcome ≡ placed o → d .outcome ≡ placed o′ → tableBy content (c .grown) (placed o) ≡ tableBy content′ (d .grown) (placed o′)
-      → All2 R (c .grown .copies) (d .grown .copies) → SameEnd R content content′ c d
+      → length o ≡ length o′ → All2 R (c .grown .copies) (d .grown .copies) → SameEnd R content content′ c d
   overflows : {u v : Overflow} → c .outcome ≡ overflow u → d .outcome ≡ overflow v → SameField R u v → All2 R (c .grown .copies) (d .grown .copies)
       → SameEnd R content content′ c d
 

@@ -8,6 +8,7 @@ use native.Mathlib.Nat.{mul-add, mul-comm}
 use lib.ListN.{length, getD, replicate, length-replicate}
 use Rattle.lists.specs.Lists.{total, over}
 use Rattle.regions.specs.Region.{Kept}
+use Rattle.regions.proofs.Laws.{region-length}
 use Rattle.regions.proofs.Frame.{kept-then, kept-less}
 use Rattle.answer.specs.declared.tally.Tally.{Tally}
 use Rattle.answer.specs.declared.Overflow.{Overflow}
@@ -18,13 +19,13 @@ use Rattle.model_orders.specs.Bag.{count}
 use Rattle.model_orders.specs.Graph.{Graph, graphOf, Acyclic, Closed, Once}
 use Rattle.model_orders.specs.Reading.{readingAt, readings}
 use Rattle.model_orders.specs.Table.{Outcome, placed, overflow, placeOf, tableOf, FieldsIn, Fields, Sized}
-use Rattle.model_orders.specs.Copies.{Arrangement, arranged, contentIn, tableBy}
+use Rattle.model_orders.specs.Copies.{Arrangement, arranged, placedOf, contentIn, tableBy}
 use Rattle.model.specs.Judge.{mostCopies}
 use Rattle.model.specs.Session.{content, arrangedIn, tableIn}
 use Rattle.model_orders.proofs.Bags.{total-bag}
 use Rattle.model_orders.proofs.Growths.{Base, objects-base, GrewReads}
 use Rattle.model_orders.proofs.Written.{table-same}
-use Rattle.model_orders.proofs.Arrangements.{Fitting as FitsAll, arranged-chosen, chosen-fitting, arranged-reads}
+use Rattle.model_orders.proofs.Arrangements.{Fitting as FitsAll, arranged-chosen, chosen-fitting, arranged-reads, arranged-count}
 use Rattle.layout.specs.Words.{objectLimit, linkLimit, closedCount}
 use Rattle.layout.specs.Decode.{decode}
 use Rattle.layout.specs.Known.{Read}
@@ -184,8 +185,16 @@ module _ {b w : List ℕ} {s : State} {t : Tally} {a : Areas} {root : ℕ} {m : 
                 };
               }
 
-          made-is : tableMade all ≡ record { length = r .length; copies = r .nodes - s .closed }
-          made-is = rw (done .length-is, ← done .made)
+          -- as many as the order is long
+          placed-is : placedOf all ≡ r .placed
+          placed-is =
+              let ids = done .fitting order order-is .ids in
+              sym (arranged-count (a .copies) g (length (decode b w .closed)) root base low order-is)
+              ∙ ap length (sym in-memory)
+              ∙ region-length (a .order) (r .placed) m₃ (omega (arith, ids .few, done .graph .apart, done .graph .long))
+
+          made-is : tableMade all ≡ record { length = r .length; copies = r .nodes - s .closed; placed = r .placed }
+          made-is = rw (done .length-is, ← done .made, placed-is)
 
           table-is : tableFor b w a (s .closed) (r .nodes) (r .placed) m₃ ≡ tableIn (decode b w) all
           unfolding tableBy tableOf
@@ -221,7 +230,7 @@ module _ {b w m : List ℕ} {s : State} {t : Tally} {a : Areas} {r : Arranged} {
   written-short h = record { short = λ k. refl; room = λ k. absurd (omega arith) }
 
   pub written-room : {out′ : List ℕ} → r .length ≤ length out → out′ ≡ over 0 (tableFor b w a (s .closed) (r .nodes) (r .placed) m) out
-      → Written b w s t a r (Done (record { length = r .length; copies = r .nodes - s .closed }) t) out out′ m
+      → Written b w s t a r (Done (record { length = r .length; copies = r .nodes - s .closed; placed = r .placed }) t) out out′ m
   written-room h e = record { short = λ k. absurd (omega arith); room = λ k. rw e }
 
 -- ---- and the needed words cleared

@@ -40,7 +40,7 @@ pub record Written (b w : List ℕ) (s : State) (t : Tally) (a : Areas) (r : Arr
   pub short : length out < r .length → packed p out′ m ≡ packed (Refused Refusal.OutputShort t) out m
   pub room :
       r .length ≤ length out
-      → packed p out′ m ≡ packed (Done (record { length = r .length; copies = r .nodes - s .closed }) t) (over 0 (tableFor b w a (s .closed) (r .nodes) (r .placed) m) out) m
+      → packed p out′ m ≡ packed (Done (record { length = r .length; copies = r .nodes - s .closed; placed = r .placed }) t) (over 0 (tableFor b w a (s .closed) (r .nodes) (r .placed) m) out) m
 
 -- it told r by the tests left, and will have done what they ask once the needed work memory is cleared
 pub record Answered (b w : List ℕ) (a : Areas) (root : ℕ) (r : Packing) (out out′ m m′ : List ℕ) : Type 0 where

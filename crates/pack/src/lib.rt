@@ -50,6 +50,7 @@ fn write_fitting(
     let made = PackedTable {
         length: size,
         copies: r.nodes - s.closed,
+        placed: r.placed,
     };
     Packing::Done(made, t)
 }

@@ -9,6 +9,7 @@ use answer::PackedTable;
 use answer::Packing;
 use answer::Tally;
 use answer::named_by;
+use answer::no_table;
 use answer::nowhere;
 use answer::number_of;
 
@@ -62,14 +63,8 @@ fn packed(n: u64, t: Tally, p: PackedTable, o: Overflow) {
     value(b" length=", p.length as u64);
     overflow(o);
     value(b" copies=", p.copies as u64);
+    value(b" placed=", p.placed as u64);
     text(b"\n");
-}
-
-fn no_table() -> PackedTable {
-    PackedTable {
-        length: 0,
-        copies: 0,
-    }
 }
 
 pub fn tell_pack(a: Packing) {

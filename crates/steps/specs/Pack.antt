@@ -11,7 +11,7 @@ use Rattle.answer.specs.declared.Refusal.{Refusal}
 use Rattle.answer.specs.declared.PackedTable.{PackedTable}
 use Rattle.answer.specs.declared.Packing.{Packing}
 use Rattle.answer.specs.declared.Packing.the-variants.{Done, Refused}
-use Rattle.model_orders.specs.Copies.{Arrangement, lengthOf}
+use Rattle.model_orders.specs.Copies.{Arrangement, lengthOf, placedOf}
 use Rattle.model.specs.Judge.{Verdict, accepted, refused, judgePack}
 use Rattle.model.specs.Session.{arrangedIn, tableIn}
 use Rattle.layout.specs.Words.{objectLimit, linkLimit}
@@ -40,9 +40,9 @@ abbrev pub settlePackStep : Verdict → ℕ → List ℕ → List ℕ → List �
 settlePackStep accepted copies b w out work done = done
 settlePackStep (refused why) copies b w out work done = packed (Refused why (beside why (tallyIn b w))) out (pick (clears why) (cleared copies w work) work)
 
--- the table of an arrangement: its length, and how many copies are in it
+-- the table of an arrangement: its length, how many copies are in it, and how many objects
 abbrev pub tableMade : Arrangement → PackedTable
-tableMade c = record { length = lengthOf c; copies = length (c .grown .copies) }
+tableMade c = record { length = lengthOf c; copies = length (c .grown .copies); placed = placedOf c }
 
 -- by a verdict, on this arrangement
 abbrev pub packBy : Verdict → Arrangement → ℕ → List ℕ → List ℕ → List ℕ → List ℕ → PackOut

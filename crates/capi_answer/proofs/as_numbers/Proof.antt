@@ -1,4 +1,4 @@
--- The eleven numbers are those of the definition.
+-- The twelve numbers are those of the definition.
 use borrow.Author.Needs.{needs}
 use mathlib.Core.Path.{refl}
 use Rattle.capi_answer.proofs.as_numbers.Statement.{statement}

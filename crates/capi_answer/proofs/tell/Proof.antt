@@ -6,6 +6,9 @@ use Rattle.capi_answer.proofs.tell.Tie as tie
 enum-known-a : tie.Need-enum-known-a
 enum-known-a c = search needs
 
+no-table-requires : tie.Need-no-table-requires
+no-table-requires c κs = search needs
+
 nowhere-requires : tie.Need-nowhere-requires
 nowhere-requires c κs = search needs
 
@@ -19,7 +22,7 @@ tell-refused-requires : tie.Need-tell-refused-requires
 tell-refused-requires c κs = search needs
 
 returns : tie.Need-returns
-returns c = rw (c .before .before .before .a .given .1, ← c .before .nowhere .ensures) (c .as-numbers .ensures)
+returns c = rw (c .before .before .before .before .a .given .1, ← c .before .nowhere .ensures) (rw (c .before .before .no-table .ensures) at (c .as-numbers .ensures))
 
 returns-2 : tie.Need-returns-2
 returns-2 c = rw (c .before .before .a2 .given .1) (c .tell-refused .ensures)
@@ -29,6 +32,7 @@ tell-spec =
     tie.close
     (tie.spec
     enum-known-a
+    no-table-requires
     nowhere-requires
     as-numbers-requires
     enum-known-a-2

@@ -9,6 +9,9 @@ enum-known-a c = search needs
 cast-as-numbers : tie.Need-cast-as-numbers
 cast-as-numbers c = search needs
 
+no-table-requires : tie.Need-no-table-requires
+no-table-requires c κs = search needs
+
 nowhere-requires : tie.Need-nowhere-requires
 nowhere-requires c κs = search needs
 
@@ -22,7 +25,7 @@ tell-refused-requires : tie.Need-tell-refused-requires
 tell-refused-requires c κs = search needs
 
 returns : tie.Need-returns
-returns c = rw (c .before .before .before .before .a .given .1, ← c .before .nowhere .ensures) (c .as-numbers .ensures)
+returns c = rw (c .before .before .before .before .before .a .given .1, ← c .before .nowhere .ensures) (rw (c .before .before .no-table .ensures) at (c .as-numbers .ensures))
 
 returns-2 : tie.Need-returns-2
 returns-2 c = rw (c .before .before .a2 .given .1) (c .tell-refused .ensures)
@@ -33,6 +36,7 @@ tell-close-spec =
     (tie.spec
     enum-known-a
     cast-as-numbers
+    no-table-requires
     nowhere-requires
     as-numbers-requires
     enum-known-a-2

@@ -1,4 +1,4 @@
--- The answer of the proved call as eleven numbers, beside what it left.
+-- The answer of the proved call as twelve numbers, beside what it left.
 use borrow.Author.Needs.{needs}
 use Rattle.capi.proofs.calls.scoterlime_put.Statement.{statement}
 use Rattle.capi.proofs.calls.scoterlime_put.Tie as tie
