@@ -125,7 +125,8 @@ static void copies(void) {
             printf("       up to %lu copies: the field at %llu of object %llu would need %llu\n", (unsigned long)allowed,
                    (unsigned long long)a.field, (unsigned long long)a.parent, (unsigned long long)a.needed);
         else
-            printf("       %llu bytes with %llu copies\n", (unsigned long long)a.length, (unsigned long long)a.copies);
+            printf("       %llu bytes with %llu copies, %llu objects in all\n", (unsigned long long)a.length, (unsigned long long)a.copies,
+                   (unsigned long long)a.placed);
         free(work);
     }
     free(out);

@@ -57,6 +57,7 @@ typedef struct {
     uint64_t field;  /* the field's place in that object, */
     uint64_t needed; /* and the offset that does not fit it */
     uint64_t copies; /* pack: how many copies were made */
+    uint64_t placed; /* pack: how many objects the table has */
 } scoterlime_answer;
 
 /* How many words of 32 bits a session with these limits needs at records. More is allowed; the surplus is never touched. */

@@ -34,6 +34,7 @@ pub struct Answer {
     pub field: u64,
     pub needed: u64,
     pub copies: u64,
+    pub placed: u64,
 }
 
 /// What a read of a GSUB table tells: its struct of include/scoterlime.h.

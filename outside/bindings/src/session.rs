@@ -10,11 +10,13 @@ pub struct Refused(pub Answer);
 #[derive(Clone, Copy, Debug, PartialEq, Eq)]
 pub struct NotRead(pub GsubRead);
 
-/// A table, at the front of the output, and how many copies were made for it.
+/// A table, at the front of the output, how many copies were made for it, and
+/// how many objects it has, the copies among them.
 #[derive(Clone, Copy, Debug, PartialEq, Eq)]
 pub struct Packed<'o> {
     pub table: &'o [u8],
     pub copies: u32,
+    pub placed: u32,
 }
 
 fn told(answer: Answer) -> Result<Answer, Refused> {
@@ -100,6 +102,8 @@ impl<'a> Session<'a> {
             table: &out[..answer.length as usize],
             // No more than 1,024.
             copies: answer.copies as u32,
+            // No more than 16,384 and the copies.
+            placed: answer.placed as u32,
         })
     }
 }

@@ -31,7 +31,11 @@ fn a_table_is_the_front_of_the_output() {
     let table = &[0, 0, 0, 4, b'x'];
     assert_eq!(
         session.pack(root, 0, &mut out, &mut work),
-        Ok(Packed { table, copies: 0 })
+        Ok(Packed {
+            table,
+            copies: 0,
+            placed: 2
+        })
     );
     assert_eq!(out[5..], [7; 4]);
     assert_eq!(
@@ -117,7 +121,12 @@ fn copies_reach_the_library_whole() {
     for copies in [2, 3, 1_024] {
         let mut work = vec![7; work_need(4, 5, copies)];
         let packed = session.pack(root, copies, &mut out, &mut work).unwrap();
-        assert_eq!((packed.table.len(), packed.copies), (80_040, 2));
+        let Packed {
+            table,
+            copies,
+            placed,
+        } = packed;
+        assert_eq!((table.len(), copies, placed), (80_040, 2, 6));
     }
     let mut work = vec![7; work_need(4, 5, 1_025)];
     for copies in [1_025, 65_536, u32::MAX] {

@@ -106,6 +106,7 @@ impl Claims {
         }
         assert_eq!(before[written..], after[written..]);
         assert_eq!(answer.number == 11, answer.needed > 65_535);
+        assert_eq!(answer.number == 0, answer.placed > 0);
     }
 
     /// A table shows the root's reading. It is as long as the different readings
@@ -121,6 +122,8 @@ impl Claims {
         let different = self.history.table_length(id).expect("closed");
         assert_eq!(answer.length, different + copied as u64);
         assert_eq!(answer.copies, again.len() as u64);
+        let pieces = self.history.table_pieces(id).expect("closed");
+        assert_eq!(answer.placed, pieces + answer.copies);
         self.met.packed += usize::from(has_inner_start(root));
         self.met.copied += usize::from(answer.copies > 0);
     }

@@ -73,5 +73,6 @@ fn told(answer: bindings::Answer) -> Answer {
         field: answer.field,
         needed: answer.needed,
         copies: answer.copies,
+        placed: answer.placed,
     }
 }

@@ -23,6 +23,8 @@ pub struct Packed {
     pub length: usize,
     /// Copies made.
     pub copies: u32,
+    /// Objects in it, the copies among them.
+    pub placed: usize,
 }
 
 /// Why there is no table.
@@ -90,10 +92,12 @@ impl Laid<'_> {
             Laid::Objects(placing) => Packed {
                 length: placing.length as usize,
                 copies: 0,
+                placed: placing.order.len(),
             },
             Laid::WithCopies(cured) => Packed {
                 length: cured.placing.length as usize,
                 copies: cured.made,
+                placed: cured.placing.order.len(),
             },
         }
     }

@@ -22,6 +22,8 @@ pub struct Answer {
     pub needed: u64,
     /// Copies made for a packed table.
     pub copies: u64,
+    /// Pieces in a packed table, the copies among them.
+    pub placed: u64,
 }
 
 pub const DONE: u64 = 0;

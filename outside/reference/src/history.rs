@@ -168,6 +168,13 @@ impl History {
         Some(different.iter().map(|reading| reading.size() as u64).sum())
     }
 
+    /// How many pieces a table packed now from an id has beside its copies: the
+    /// different readings among the root's and all those below it.
+    pub fn table_pieces(&self, id: u32) -> Option<u64> {
+        let root = self.reading(id)?;
+        Some(different_readings(root).len() as u64)
+    }
+
     /// The sizes of all the pieces kept, open and closed.
     pub fn sum(&self) -> usize {
         let open: usize = self.open.iter().map(Draft::size).sum();

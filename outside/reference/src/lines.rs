@@ -18,8 +18,8 @@ pub fn told(call: &Call, answer: &Answer) -> String {
     match call {
         Call::Close => format!("{counts} id={}", answer.id),
         Call::Pack { .. } => format!(
-            "{counts} length={} parent={} field={} needed={} copies={}",
-            answer.length, answer.parent, answer.field, answer.needed, answer.copies
+            "{counts} length={} parent={} field={} needed={} copies={} placed={}",
+            answer.length, answer.parent, answer.field, answer.needed, answer.copies, answer.placed
         ),
         _ => counts,
     }

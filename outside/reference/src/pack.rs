@@ -59,6 +59,7 @@ fn pack_root(view: &View, root: usize, copies: usize, out: &mut [u8]) -> Answer 
     Answer {
         length,
         copies: laid.copies.made() as u64,
+        placed: laid.placing.order.len() as u64,
         ..Answer::with_tally_of(answer::DONE, tally)
     }
 }

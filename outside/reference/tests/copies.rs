@@ -219,6 +219,7 @@ fn eleven_before_ten_and_ten_by_the_length_with_copies() {
     let expected = Answer {
         length: 80_040,
         copies: 2,
+        placed: 6,
         ..told(0, held)
     };
     assert_eq!(pack(2, 80_040), expected);
@@ -257,6 +258,7 @@ fn cases_25_to_28() {
     let packed = Answer {
         length: 80_040,
         copies: 2,
+        placed: 6,
         ..told(0, held)
     };
     assert_eq!(packs_of("25 copies 2"), [packed]);
@@ -300,7 +302,8 @@ fn no_copies_where_one_of_the_first_orders_fits() {
     session.piece(&[], &[(2, 0)]);
     session.piece(&[], &[(2, 0), (2, 1)]);
     let packed = session.pack_copying(2, 9, 7);
-    assert_eq!((packed.answer.length, packed.answer.copies), (7, 0));
+    let told = packed.answer;
+    assert_eq!((told.length, told.copies, told.placed), (7, 0, 3));
     assert_eq!(packed.output, [0, 6, 0, 4, 0, 2, b'x']);
 }
 

@@ -171,6 +171,7 @@ fn case_14() {
     let packed = session.pack(a, 80_014);
     let expected = Answer {
         length: 80_014,
+        placed: 7,
         ..told(0, [80_014, 6, 7, 0])
     };
     assert_eq!(packed.answer, expected);

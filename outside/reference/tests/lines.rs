@@ -18,6 +18,7 @@ fn one_line_a_call() {
         field: 8,
         needed: 9,
         copies: 10,
+        placed: 11,
     };
     let counts = "number=11 bytes=1 links=2 objects=3 depth=4";
     assert_eq!(told(&Call::Open, &answer), format!("open {counts}"));
@@ -30,7 +31,7 @@ fn one_line_a_call() {
     };
     assert_eq!(
         told(&pack, &answer),
-        format!("pack {counts} length=6 parent=7 field=8 needed=9 copies=10")
+        format!("pack {counts} length=6 parent=7 field=8 needed=9 copies=10 placed=11")
     );
 }
 

@@ -105,6 +105,8 @@ impl Pair {
                 .collect();
             assert_eq!((shown.len() - different.len()) as u64, answer.copies);
             assert!(answer.copies <= copies.into());
+            let pieces = self.history.table_pieces(id).unwrap();
+            assert_eq!(answer.placed, pieces + answer.copies);
             if answer.copies == 0 {
                 assert_eq!(Some(answer.length), self.history.table_length(id));
             }
@@ -142,6 +144,7 @@ impl Pair {
         };
         assert!(expected.contains(&number), "{number} of {expected:?}");
         assert_eq!(number == 11, told.answer.needed > 65_535);
+        assert_eq!(number == 0, told.answer.placed > 0);
     }
 }
 

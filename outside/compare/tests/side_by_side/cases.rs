@@ -181,6 +181,7 @@ fn numbers_counted_by_hand() {
 fn copies_counted_by_hand() {
     let told = run(&named("25 copies 2")).0;
     assert_eq!((told.number, told.length, told.copies), (0, 80_040, 2));
+    assert_eq!(told.placed, 6);
     let (_, whole) = run_whole(&named("28"));
     assert_eq!(whole.numbers[3..], [13, 13, 13, 0, 0]);
 }

@@ -68,15 +68,16 @@ fn packs(laid: &Laid, allowed: u32, numbers: &mut Numbers, pack: &mut Pack) {
         match laid.overflow {
             None => {
                 let told = pack(copies, length);
-                let packed = (told.number, told.length, told.copies);
-                assert_eq!(packed, (0, length as u64, made.into()));
+                let packed = (told.number, told.length, told.copies, told.placed);
+                let placed = laid.placing.order.len() as u64;
+                assert_eq!(packed, (0, length as u64, made.into(), placed));
             }
             Some(unfit) => {
                 // However short the output is.
                 let told = pack(copies, numbers.below(length + 1));
                 let named = (told.parent as usize, told.field, told.needed);
                 assert_eq!(named, (unfit.parent, unfit.field, unfit.needed));
-                assert_eq!((told.number, told.copies), (11, 0));
+                assert_eq!((told.number, told.copies, told.placed), (11, 0, 0));
             }
         }
     }

@@ -26,9 +26,10 @@ struct Seen {
 /// What the plain packer told, without the tally.
 fn told_by_plain(packed: Result<Packed, Refusal>) -> Answer {
     match packed {
-        Ok(Packed { length, copies }) => Answer {
-            length: length as u64,
-            copies: copies.into(),
+        Ok(packed) => Answer {
+            length: packed.length as u64,
+            copies: packed.copies.into(),
+            placed: packed.placed as u64,
             ..Answer::default()
         },
         Err(Refusal::NoFit(over)) => Answer {

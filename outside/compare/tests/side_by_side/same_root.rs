@@ -146,7 +146,8 @@ fn pack<P: Packer>(
         .map(|written| written.pack(root, copies, numbers));
     let told = |answer: &Answer| {
         let Answer { number, length, .. } = *answer;
-        [number, length, answer.copies, answer.field, answer.needed]
+        let table = [number, length, answer.copies, answer.placed];
+        (table, answer.field, answer.needed)
     };
     assert_eq!(told(&a), told(&b), "{copies} copies allowed");
     assert!(table == other_table, "{copies} copies allowed");
