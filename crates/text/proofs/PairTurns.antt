@@ -1,0 +1,54 @@
+-- A turn of each loop over hex pairs: what is left to write, what is left to read.
+use mathlib.Core.Path.{_≡_, refl, sym, _∙_}
+use Prim.Native.Nat.{ℕ, _+_, _*_, _/_, _%_, _≤_, _<_}
+use mathlib.Core.List.{List, [], _∷_}
+use native.Mathlib.Omega.{arith}
+use lib.ListN.{length, drop, getD, set, length-drop, length-set, drop-of-length-le}
+use Rattle.lists.specs.Lists.{over}
+use Rattle.lists.proofs.Runs.{drop-first, over-none, over-first}
+use Rattle.lists.proofs.Overs.{over-then}
+use Rattle.text.specs.Digits.{digit, digits}
+use Rattle.text.specs.Hex.{hexPairs, pairValue, bytesOf}
+use Rattle.text.proofs.Written.{length-digits}
+
+-- ---- pairs written
+pub pair-put : (at b : ℕ) (l : List ℕ) → at + 2 ≤ length l
+    → set (set l at (digit (b / 16 % 16))) (at + 1) (digit (b % 16)) ≡ over at (digits 16 2 b) l
+unfolding digits
+pair-put at b l h =
+    let x : ℕ = digit (b / 16 % 16) in
+    let y : ℕ = digit (b % 16) in
+    sym (over-none (at + 1 + 1) (set (set l at x) (at + 1) y))
+    ∙ over-first (at + 1) y [] (set l at x) (rw length-set (omega arith))
+    ∙ over-first at x (y ∷ []) l (omega arith)
+
+pub pairs-turn : (at i : ℕ) (l out : List ℕ) → i < length l → at + length l * 2 ≤ length out
+    → over (at + (i + 1) * 2) (hexPairs (drop (i + 1) l)) (over (at + i * 2) (digits 16 2 (getD l i 0)) out) ≡ over (at + i * 2) (hexPairs (drop i l)) out
+unfolding hexPairs
+pairs-turn at i l out h k =
+    let b : ℕ = getD l i 0 in
+    let n : length (digits 16 2 b) ≡ 2 = length-digits 16 2 b in
+    let e : at + (i + 1) * 2 ≡ at + i * 2 + length (digits 16 2 b) = omega arith in
+    rw (e, drop-first i l h) (over-then (at + i * 2) (digits 16 2 b) out (omega arith) (hexPairs (drop (i + 1) l)))
+
+pub pairs-end : (at i : ℕ) (l out : List ℕ) → length l ≤ i → over at (hexPairs (drop i l)) out ≡ out
+unfolding hexPairs
+pairs-end at i l out h = rw (drop-of-length-le l {i = i} h) (over-none at out)
+
+-- ---- pairs read
+pub bytes-turn : (i : ℕ) (l out : List ℕ) → i * 2 + 1 < length l → i < length out
+    → over (i + 1) (bytesOf (drop ((i + 1) * 2) l)) (set out i (pairValue (getD l (i * 2) 0) (getD l (i * 2 + 1) 0))) ≡ over i (bytesOf (drop (i * 2) l)) out
+unfolding bytesOf
+bytes-turn i l out h k =
+    let e : (i + 1) * 2 ≡ i * 2 + 1 + 1 = omega arith in
+    let a : i * 2 < length l = omega arith in
+    rw (e, drop-first (i * 2) l a, drop-first (i * 2 + 1) l h) (over-first i _ _ out k)
+
+bytes-short : (l : List ℕ) → length l ≤ 1 → bytesOf l ≡ []
+unfolding bytesOf
+bytes-short [] h = refl
+bytes-short (c ∷ []) h = refl
+bytes-short (c ∷ (d ∷ l)) h = absurd (omega arith)
+
+pub bytes-end : (i : ℕ) (l out : List ℕ) → length l ≤ i * 2 + 1 → over i (bytesOf (drop (i * 2) l)) out ≡ out
+bytes-end i l out h = rw (bytes-short (drop (i * 2) l) (omega (arith, length-drop (i * 2) l))) (over-none i out)

@@ -1,0 +1,23 @@
+-- Numbers and bytes in lowercase hex.
+use Prim.Native.Nat.{ℕ, _+_, _*_, _%_}
+use mathlib.Core.List.{List, [], _∷_, _++_}
+use Rattle.text.specs.Digits.{digits, valueOf}
+
+-- a number of 32 bits as eight digits
+abbrev pub hexWord : ℕ → List ℕ
+hexWord n = digits 16 8 n
+
+-- bytes as pairs of digits
+unfoldable pub hexPairs : List ℕ → List ℕ
+hexPairs [] = []
+hexPairs (b ∷ l) = digits 16 2 b ++ hexPairs l
+
+-- the byte of a pair; what is no digit counts as 0
+abbrev pub pairValue : ℕ → ℕ → ℕ
+pairValue c d = valueOf c % 16 * 16 + valueOf d % 16
+
+-- the bytes of pairs; a last character alone is left out
+unfoldable pub bytesOf : List ℕ → List ℕ
+bytesOf [] = []
+bytesOf (c ∷ []) = []
+bytesOf (c ∷ (d ∷ l)) = pairValue c d ∷ bytesOf l
