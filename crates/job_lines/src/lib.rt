@@ -6,7 +6,7 @@ ghost use lib.ListN.{drop};
 ghost use Rattle.job_lines.specs.Lines.{pastLine, firstLine, between};
 ghost use Rattle.job_lines.specs.Reader.{moved};
 
-const LINE_FEED: u8 = b'\n';
+pub const LINE_FEED: u8 = b'\n';
 
 pub struct Lines<'a> {
     pub text: &'a [u8],

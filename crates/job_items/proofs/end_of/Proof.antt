@@ -1,0 +1,19 @@
+-- `end_of` meets its contract.
+use borrow.Author.Needs.{needs}
+use Rattle.job_items.proofs.end_of.Statement.{statement}
+use Rattle.job_items.proofs.end_of.Tie as tie
+
+enum-known-count : tie.Need-enum-known-count
+enum-known-count c = search needs
+
+enum-told : tie.Need-enum-told
+enum-told c = search needs
+
+returns : tie.Need-returns
+returns c = rw (c .before .count .given .1)
+
+returns-2 : tie.Need-returns-2
+returns-2 c = search needs
+
+pub end-of-spec : {M : Type 1} → statement M
+end-of-spec = tie.close (tie.spec enum-known-count enum-told returns returns-2)
