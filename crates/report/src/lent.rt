@@ -18,7 +18,8 @@ fn sum_of(bytes: &[u8]) -> u64 {
     sum
 }
 
-fn print_bytes(bytes: &[u8]) {
+// Bytes in hex.
+pub fn print_bytes(bytes: &[u8]) {
     let mut i = 0;
     while i < bytes.len() {
         hex(bytes[i]);

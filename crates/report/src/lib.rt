@@ -8,6 +8,7 @@ mod print;
 pub use calls::tell;
 pub use calls::tell_close;
 pub use calls::tell_pack;
+pub use lent::print_bytes;
 pub use lent::print_next;
 pub use lent::show_bytes;
 pub use lent::show_longs;
