@@ -1,24 +1,20 @@
 -- Calls that are the steps, however they are known: demand 1 of each, demand 3 of every list of them, and of every two lists that the same root gives the same bytes.
 use mathlib.Core.Path.{_≡_, refl, ap, _∙_}
-use mathlib.Core.List.{List, [], _∷_}
+use mathlib.Core.List.{List, _∷_}
 use lib.ListN.{length}
 use Rattle.model.specs.History.{begun}
 use Rattle.steps.specs.Steps.{limitsOf}
-use Rattle.steps.specs.Runs.{start, Stores, LentCall, onStores, pack, lentStep}
+use Rattle.steps.specs.Runs.{start, Stores, onStores, pack, lentStep}
 use Rattle.claims.specs.Calls.{Answers}
 use Rattle.claims.specs.Demand.{Made, run, AllClaim}
 use Rattle.claims.proofs.Calls.{answers}
 use Rattle.claims.proofs.Demand.{demand-3}
 use Rattle.claims.proofs.Theorems.{same-bytes}
-use Rattle.claims_program.specs.Chain.{Ran, none, more, EveryList, Written, storesNow, EveryTwo}
-
-unfoldable callsOf : List Made → List LentCall
-callsOf [] = []
-callsOf (m ∷ ms) = m .call ∷ callsOf ms
+use Rattle.claims_program.specs.Chain.{Ran, none, more, callsOf, EveryList, Written, storesNow, EveryTwo}
 
 module _ {called : Stores → Made → Type 0} (step : (s : Stores) (m : Made) → called s m → m .left ≡ lentStep (m .call) s) where
-  ran-run : {s : Stores} {ms : List Made} → Ran called s ms → ms ≡ run (callsOf ms) s
-  unfolding callsOf run
+  pub ran-run : {s : Stores} {ms : List Made} → Ran called s ms → ms ≡ run (callsOf ms) s
+  unfolding run
   ran-run none = refl
   ran-run (more {s = s} {m = m} {ms = ms} c r) = ap (_∷_ m) (ran-run r) ∙ ap (λ l. record { call = m .call; left = l } ∷ run (callsOf ms) (l .stores)) (step s m c)
 

@@ -1,14 +1,14 @@
 -- docs/RULES.md, 8.1, 8.11: a call of a function, of which only its contract is known, a list of such calls, and what is claimed of every list and of every two.
 use Prim.Native.Nat.{ℕ}
 use mathlib.Core.Path.{_≡_}
-use mathlib.Core.List.{List, [], _∷_}
+use mathlib.Core.List.{List, [], _∷_, map}
 use borrow.Fn.Kinds.{PK, RK, Dens, resT, endedOf, Out}
 use contract.Lifetimes.{Lfts}
 use denote.Triple.Clauses.{AtExit}
 use lib.ListN.{length}
 use Rattle.model.specs.History.{History, begun}
 use Rattle.steps.specs.Steps.{limitsOf}
-use Rattle.steps.specs.Runs.{StoreCall, start, Stores, Left, onStores, pack, LentLeft, storesLeft}
+use Rattle.steps.specs.Runs.{StoreCall, start, Stores, Left, LentCall, onStores, pack, LentLeft, storesLeft}
 use Rattle.claims.specs.Demand.{Made, storesAfter, historyAfter, AllClaim}
 use Rattle.claims.specs.Same.{SameBytes}
 
@@ -28,6 +28,10 @@ made c l = record { call = onStores c; left = storesLeft l }
 pub data Ran (called : Stores → Made → Type 0) : Stores → List Made → Type 0 where
   none : {s : Stores} → Ran called s []
   more : {s : Stores} {m : Made} {ms : List Made} → called s m → Ran called (m .left .stores) ms → Ran called s (m ∷ ms)
+
+-- the calls of a list
+abbrev pub callsOf : List Made → List LentCall
+callsOf ms = map (λ (m : Made). m .call) ms
 
 -- after an accepted start, whatever the stores held, every list of calls is as the history says
 abbrev pub EveryList : (Stores → Made → Type 0) → Type 0

@@ -1,0 +1,6 @@
+pub mod Opening
+pub mod Goes
+pub mod Lists
+pub mod Lines
+pub mod Cases
+pub mod Theorems
