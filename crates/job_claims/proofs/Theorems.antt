@@ -3,6 +3,7 @@
 --   of calls of the public functions, and of the C functions, by their contracts alone: `job-run`, `job-run-c`
 --   what section 8 says of lists of calls holds of them: `job-list`, `job-list-c`
 --   which calls they are, of two jobs: `cases-right` (Cases)
+--   the numbers that it may tell: `job-tells` (Numbers)
 --   there is memory that suits each text: `suited-just`
 use mathlib.Core.Path.{_≡_, sym, ap, subst, _∙_}
 use Prim.Native.Nat.{ℕ}
