@@ -9,6 +9,7 @@
 //!   leave, [`by_id`] orders that differ between these.
 //! * [`tables`] and [`crafted`] make GSUB tables of [`parts`], [`real`] has those of fonts, [`spoilt`]
 //!   damages them, [`reads`] reads them.
+//! * [`jobs`] has jobs as texts, [`program`] the proved program that runs them.
 
 pub mod by_id;
 pub mod checked;
@@ -17,12 +18,14 @@ pub mod crafted;
 pub mod decided;
 pub mod fenced;
 pub mod groups;
+pub mod jobs;
 pub mod largest;
 pub mod lists;
 pub mod made;
 pub mod met;
 pub mod pair;
 pub mod parts;
+pub mod program;
 pub mod proved;
 pub mod reads;
 pub mod real;

@@ -40,6 +40,8 @@ pub const OUTPUT_SHORT: u64 = 10;
 pub const NO_FIT: u64 = 11;
 pub const NOT_SOUND: u64 = 12;
 pub const OUT_OF_RANGE: u64 = 13;
+/// Of a job alone.
+pub const LAYOUT_BROKEN: u64 = 14;
 /// Of a read alone.
 pub const UNREADABLE: u64 = 15;
 pub const HOPELESS: u64 = 16;

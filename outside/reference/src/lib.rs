@@ -8,6 +8,7 @@
 //! * [`history`] says what the calls must tell, from their arguments alone.
 //! * [`reader`] checks that a packed table shows a reading.
 //! * [`gsub`] reads a whole GSUB table into a session.
+//! * [`job`] runs a session and a pack that are written as lines of text.
 
 #![forbid(unsafe_code)]
 
@@ -22,6 +23,7 @@ pub mod gsub;
 pub mod history;
 mod hopeless_traps;
 mod inner_traps;
+pub mod job;
 pub mod limits;
 pub mod lines;
 pub mod orders;

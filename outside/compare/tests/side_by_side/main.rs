@@ -10,6 +10,7 @@ mod full;
 mod graphs;
 mod gsub;
 mod hopeless;
+mod jobs;
 mod largest;
 mod made;
 mod needs;
