@@ -129,7 +129,7 @@ pub fn any(numbers: &mut Numbers) -> Vec<u8> {
 /// Changes a line.
 fn edit(lines: &mut Vec<String>, numbers: &mut Numbers) {
     let (at, other) = (numbers.below(lines.len()), numbers.below(lines.len()));
-    match numbers.below(15) {
+    match numbers.below(16) {
         0 => drop(lines.remove(at)),
         1 => lines.insert(at, lines[other].clone()),
         2 => lines.swap(at, other),
@@ -162,6 +162,11 @@ fn edit(lines: &mut Vec<String>, numbers: &mut Numbers) {
         }
         12 => lines.insert(at, numbers.one_of(&LINES).to_string()),
         13 => lines.push(numbers.one_of(&LINES).to_string()),
+        14 => {
+            lines.truncate(at + 1);
+            let pieces = lines.iter().filter(|line| line.starts_with("piece="));
+            lines.push(format!("end={}", pieces.count()));
+        }
         _ => {
             let end = lines.len() - 1;
             if let Some(line) = stepped(&lines[end], numbers) {
