@@ -7,5 +7,6 @@ pub mod Overs
 pub mod Parts
 pub mod Runs
 pub mod Same
+pub mod Tables
 pub mod Tests
 pub mod Whole

@@ -4,9 +4,10 @@ use Prim.Native.Nat.{ℕ, _+_, _-_, _≤_}
 use mathlib.Core.List.{List, _++_, append-assoc, append-nil}
 use native.Mathlib.Nat.{zero-add}
 use native.Mathlib.Omega.{arith}
-use lib.ListN.{length, take, drop, length-append, length-drop, drop-of-length-le}
+use lib.ListN.{length, take, drop, length-append, length-drop, take-append-drop, drop-of-length-le}
 use lib.Seq.{length-take-le, take-all, take-at, take-append-le, drop-append-le, drop-at, drop-drop}
-use Rattle.lists.specs.Lists.{over}
+use Rattle.lists.specs.Lists.{part, over}
+use Rattle.lists.proofs.Runs.{length-part, part-drop}
 
 pub over-append : (i : ℕ) (vs l r : List ℕ) → i + length vs ≤ length l → over i vs (l ++ r) ≡ over i vs l ++ r
 unfolding over
@@ -31,3 +32,10 @@ module _ (i : ℕ) (vs l : List ℕ) (h : i + length vs ≤ length l) where
   over-lent =
       let n : length (drop i l) ≤ length l - i = omega (arith, length-drop i l) in
       rw (take-all (length l - i) (drop i l) n, drop-of-length-le (drop i l) {i = length l - i} n, append-nil, zero-add, drop-drop (length vs) i l)
+
+-- a part written over itself
+pub over-part : (a e : ℕ) (l : List ℕ) → a ≤ e → e ≤ length l → over a (part a e l) l ≡ l
+unfolding over
+over-part a e l h k =
+    let n : a + length (part a e l) ≡ e = omega (arith, length-part a e l k) in
+    rw (n, part-drop a e l h, take-append-drop a l)

@@ -1,5 +1,5 @@
 -- Parts of a list, and lists written over one, an element at a time.
-use mathlib.Core.Path.{_≡_}
+use mathlib.Core.Path.{_≡_, sym, _∙_}
 use Prim.Native.Nat.{ℕ, suc, _+_, _-_, _≤_, _<_}
 use mathlib.Core.List.{List, [], _∷_, _++_, append-assoc}
 use native.Mathlib.Nat.{add-zero}
@@ -67,3 +67,7 @@ module _ (i x : ℕ) (vs l : List ℕ) where
       let b : k < length (set l k x) = rw length-set h in
       let c : k < suc k = omega arith in
       rw (n, append-assoc, take-set-le i l k x a, drop-cons (set l k x) k 0 b, getD-set-same l k x 0 h, drop-set-lt (suc k) l k x c)
+
+-- a store writes a list of one
+pub set-over : (i x : ℕ) (l : List ℕ) → i < length l → set l i x ≡ over i (x ∷ []) l
+set-over i x l h = sym (over-none (i + 1) (set l i x)) ∙ over-first i x [] l h

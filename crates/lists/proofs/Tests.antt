@@ -42,3 +42,11 @@ module _ (t : ℕ → ℕ → Bool) where
   pub same-none : (i : ℕ) (l m : List ℕ) → length l ≤ i → length m ≤ i → sameList t (drop i l) (drop i m) ≡ true
   unfolding sameList
   same-none i l m h k = rw (drop-of-length-le l {i = i} h, drop-of-length-le m {i = i} k)
+
+  -- two lists in a row, cut at one place
+  pub same-append : (a b c d : List ℕ) → length a ≡ length c → sameList t (a ++ b) (c ++ d) ≡ (sameList t a c && sameList t b d)
+  unfolding sameList
+  same-append [] b [] d h = refl
+  same-append [] b (y ∷ c) d h = absurd (omega arith)
+  same-append (x ∷ a) b [] d h = absurd (omega arith)
+  same-append (x ∷ a) b (y ∷ c) d h = rw (same-append a b c d (omega arith), and-assoc)

@@ -1,25 +1,21 @@
 -- Numbers copied in steps of several: one step, one behind the other, and a last one that overlaps what is written.
 use mathlib.Core.Path.{_≡_, refl, sym, ap, _∙_}
-use Prim.Native.Nat.{ℕ, zero, suc, _+_, _-_, _≤_, _<_}
+use Prim.Native.Nat.{ℕ, zero, suc, _+_, _-_, _≤_}
 use mathlib.Core.List.{List, [], _∷_, _++_}
 use native.Mathlib.Nat.{zero-add, add-zero}
-use native.Mathlib.Numerals.{add-one}
 use native.Mathlib.Omega.{arith}
-use lib.ListN.{length, take, drop, getD, set, length-take, length-drop}
+use lib.ListN.{length, take, drop, getD, set, length-drop}
 use lib.Seq.{length-take-le, take-all, take-add, take-suc}
 use Rattle.lists.specs.Lists.{over}
 use Rattle.lists.proofs.Over.{length-over, over-take, over-drop}
 use Rattle.lists.proofs.Overs.{over-then, over-lent}
-use Rattle.lists.proofs.Runs.{over-none, over-first, part-rest}
+use Rattle.lists.proofs.Runs.{over-none, set-over, part-rest}
 
 -- ---- one step: the first k, stored one by one
 
 unfoldable pub stored : ℕ → List ℕ → List ℕ → List ℕ
 stored zero vs l = l
 stored (suc k) vs l = set (stored k vs l) k (getD vs k 0)
-
-set-over : (i x : ℕ) (l : List ℕ) → i < length l → set l i x ≡ over i (x ∷ []) l
-set-over i x l h = sym (over-none (i + 1) (set l i x)) ∙ over-first i x [] l h
 
 pub stored-over : (k : ℕ) (vs l : List ℕ) → k ≤ length vs → k ≤ length l → stored k vs l ≡ over 0 (take k vs) l
 unfolding stored

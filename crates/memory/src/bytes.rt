@@ -1,6 +1,7 @@
 // Parts of byte slices.
+use crate::least;
 ghost use mathlib.Core.Path.{_≡_};
-ghost use Prim.Native.Nat.{_+_, _-_, _≤_, _<_, min};
+ghost use Prim.Native.Nat.{_+_, _-_, _≤_, _<_};
 ghost use lib.Dec.{eqb};
 ghost use lib.ListN.{length, replicate, take, drop};
 ghost use Rattle.lists.specs.Lists.{part, over, sameList, zeros};
@@ -78,13 +79,6 @@ fn copy_4(s: &mut [u8], at: usize, src: &[u8])
 {
     step_4(s, at, src, 0);
     step_4(s, at, src, src.len() - 4);
-}
-
-// The lesser, without a branch.
-fn least(a: usize, b: usize) -> usize
-    ensures { λ r. ⌜ r ≡ min a b ⌝ }
-{
-    if a < b { a } else { b }
 }
 
 // Eight to 32 bytes in four steps, which may overlap: so that no branch goes by how many there are.
@@ -184,6 +178,23 @@ pub fn same(s: &[u8], a: usize, c: usize, n: usize) -> bool
         i += 1;
     }
     alike
+}
+
+// Whether two slices are the same, in length and in every byte.
+pub fn equal(s: &[u8], t: &[u8]) -> bool
+    ensures { λ r. ⌜ r ≡ sameList eqb (now (s .entry)) (now (t .entry)) ⌝ }
+{
+    if s.len() != t.len() {
+        return false;
+    }
+    let mut i = 0;
+    while i < s.len() {
+        if s[i] != t[i] {
+            return false;
+        }
+        i += 1;
+    }
+    true
 }
 
 // How many bytes are looked at without a branch.
