@@ -2,14 +2,19 @@
 use mathlib.Core.Path.{_≡_, refl, sym, _∙_}
 use Prim.Native.Nat.{ℕ, _+_, _*_, _/_, _%_, _≤_, _<_}
 use mathlib.Core.List.{List, [], _∷_}
+use mathlib.Core.Bool.{Bool, true, _&&_, and-assoc, and-true}
 use native.Mathlib.Omega.{arith}
+use borrow.Author.Tests.{eqb-true}
+use lib.Dec.{eqb, ltb}
 use lib.ListN.{length, drop, getD, set, length-drop, length-set, drop-of-length-le}
 use Rattle.lists.specs.Lists.{over}
 use Rattle.lists.proofs.Runs.{drop-first, over-none, over-first}
 use Rattle.lists.proofs.Overs.{over-then}
-use Rattle.text.specs.Digits.{digit, digits}
-use Rattle.text.specs.Hex.{hexPairs, pairValue, bytesOf}
+use Rattle.lists.proofs.Tables.{everywhere, at-entry}
+use Rattle.text.specs.Digits.{digit, digits, valueOf, allDigits}
+use Rattle.text.specs.Hex.{hexPairs, pairValue, bytesOf, RightValues}
 use Rattle.text.proofs.Written.{length-digits}
+use Rattle.text.proofs.DigitTurns.{all-first, all-none}
 
 -- ---- pairs written
 pub pair-put : (at b : ℕ) (l : List ℕ) → at + 2 ≤ length l
@@ -52,3 +57,22 @@ bytes-short (c ∷ (d ∷ l)) h = absurd (omega arith)
 
 pub bytes-end : (i : ℕ) (l out : List ℕ) → length l ≤ i * 2 + 1 → over i (bytesOf (drop (i * 2) l)) out ≡ out
 bytes-end i l out h = rw (bytes-short (drop (i * 2) l) (omega (arith, length-drop (i * 2) l))) (over-none i out)
+
+-- two characters more are digits, so far as all before them were
+pub both-turn : (flag : Bool) (i : ℕ) (l : List ℕ) → i * 2 + 1 < length l
+    → (((flag && ltb (valueOf (getD l (i * 2) 0)) 16) && ltb (valueOf (getD l (i * 2 + 1) 0)) 16) && allDigits 16 (drop ((i + 1) * 2) l)) ≡ (flag && allDigits 16 (drop (i * 2) l))
+both-turn flag i l h =
+    let e : (i + 1) * 2 ≡ i * 2 + 1 + 1 = omega arith in
+    let a : i * 2 < length l = omega arith in
+    rw (e, all-first 16 (i * 2) l a, all-first 16 (i * 2 + 1) l h) (simp and-assoc)
+
+pub both-end : (flag : Bool) (i : ℕ) (l : List ℕ) → length l ≤ i * 2 → (flag && allDigits 16 (drop (i * 2) l)) ≡ flag
+both-end flag i l h = rw (all-none 16 (i * 2) l h, and-true)
+
+-- the table's rule, tested over all entries, holds at each
+unfoldable pub rightValue : ℕ → ℕ → Bool
+rightValue c x = eqb x (valueOf c)
+
+pub right-values : (table : List ℕ) → everywhere rightValue 0 table ≡ true → length table ≡ 256 → RightValues table
+unfolding rightValue
+right-values table right full = record { entry = λ c h. eqb-true (getD table c 0) (valueOf c) (at-entry rightValue 0 table right c (omega arith)) }

@@ -1,17 +1,18 @@
 -- Hex pairs: how long they are, and that reading them gives the bytes back.
-use mathlib.Core.Path.{_≡_, refl, ap}
-use Prim.Native.Nat.{ℕ, _*_, _/_, _%_, _<_}
+use mathlib.Core.Path.{_≡_, refl, sym, ap}
+use Prim.Native.Nat.{ℕ, _+_, _*_, _/_, _%_, _≤_, _<_}
 use mathlib.Core.List.{List, [], _∷_}
-use mathlib.Core.Bool.{true}
+use mathlib.Core.Bool.{Bool, true, false}
 use native.Mathlib.Omega.{arith}
-use lib.Dec.{ltb}
+use lib.Dec.{eqb, ltb}
 use lib.ListN.{length, length-append}
 use lib.Pow.{areBytes}
-use borrow.Author.Tests.{ltb-true}
+use borrow.Author.Tests.{ltb-true, ltb-false, eq-eqb, ne-eqb}
+use Rattle.lists.specs.Lists.{sameList}
 use Rattle.lists.proofs.Same.{and-left, and-right}
-use Rattle.text.specs.Digits.{digits}
+use Rattle.text.specs.Digits.{digit, digits, valueOf, allDigits}
 use Rattle.text.specs.Hex.{hexPairs, bytesOf}
-use Rattle.text.proofs.Written.{length-digits, value-digit}
+use Rattle.text.proofs.Written.{length-digits, value-digit, digit-value}
 
 pub length-pairs : (l : List ℕ) → length (hexPairs l) ≡ length l * 2
 unfolding hexPairs
@@ -32,3 +33,28 @@ pairs-read (b ∷ l) h =
     let k : b < 256 = ltb-true b 256 (and-left (ltb b 256) (areBytes l) h) in
     rw (value-digit (b / 16 % 16) (omega arith), value-digit (b % 16) (omega arith), pairs-read l (and-right (ltb b 256) (areBytes l) h))
     (ap (λ (x : ℕ). x ∷ l) (omega arith))
+
+-- a digit is its value's character; what is no digit is no value's
+digit-back : (c : ℕ) → eqb c (digit (valueOf c % 16)) ≡ ltb (valueOf c) 16
+digit-back c = by (ltb (valueOf c) 16) refl
+  where
+    by : (t : Bool) → ltb (valueOf c) 16 ≡ t → eqb c (digit (valueOf c % 16)) ≡ t
+    by true e =
+        let k : valueOf c < 16 = ltb-true (valueOf c) 16 e in
+        let m : valueOf c % 16 ≡ valueOf c = omega arith in
+        rw m (eq-eqb c (digit (valueOf c)) (sym (digit-value c k)))
+    by false e =
+        let k : 16 ≤ valueOf c = ltb-false (valueOf c) 16 e in
+        ne-eqb c (digit (valueOf c % 16)) (λ q. omega (arith, k, ap valueOf q, value-digit (valueOf c % 16) (omega arith)))
+
+-- hex digits in pairs are what writing the bytes they give gives back
+pub pairs-back : (l : List ℕ) → length l % 2 ≡ 0 → sameList eqb l (hexPairs (bytesOf l)) ≡ allDigits 16 l
+unfolding bytesOf hexPairs digits sameList allDigits
+pairs-back [] h = refl
+pairs-back (c ∷ []) h = absurd (omega arith)
+pairs-back (c ∷ (d ∷ l)) h =
+    let x : ℕ = valueOf c % 16 in
+    let y : ℕ = valueOf d % 16 in
+    let a : (x * 16 + y) / 16 % 16 ≡ x = omega arith in
+    let b : (x * 16 + y) % 16 ≡ y = omega arith in
+    rw (a, b, digit-back c, digit-back d, pairs-back l (omega arith))

@@ -5,9 +5,9 @@ use mathlib.Core.List.{List, [], _∷_, _++_}
 use mathlib.Core.Bool.{Bool, true, false}
 use native.Mathlib.Omega.{arith}
 use native.Mathlib.Nat.{mod-lt, div-add-mod'}
-use lib.Dec.{ltb}
+use lib.Dec.{leb, ltb}
 use lib.ListN.{length, length-append}
-use borrow.Author.Tests.{lt-ltb, le-ltb, le-leb, lt-leb, ltb-true, ltb-false}
+use borrow.Author.Tests.{lt-ltb, le-ltb, le-leb, lt-leb, ltb-true, ltb-false, leb-true}
 use Rattle.lists.proofs.Same.{and-left, and-right}
 use Rattle.text.specs.Digits.{char0, char9, charA, charF, digit, digits, valueOf, allDigits, readOn}
 
@@ -28,6 +28,22 @@ value-digit d h = by (ltb d 10) refl
         let k : 10 ≤ d = ltb-false d 10 e in
         let c : ℕ = d - 10 + charA in
         rw e (rw (le-ltb c char0 (omega arith), lt-leb c char9 (omega arith), le-ltb c charA (omega arith), le-leb c charF (omega arith)) (omega arith))
+
+-- and the character of its value is the digit's
+pub digit-value : (c : ℕ) → valueOf c < 16 → digit (valueOf c) ≡ c
+digit-value c h = by (ltb c char0) refl (leb c char9) refl (ltb c charA) refl (leb c charF) refl
+  where
+    by : (p : Bool) → ltb c char0 ≡ p → (q : Bool) → leb c char9 ≡ q → (r : Bool) → ltb c charA ≡ r → (s : Bool) → leb c charF ≡ s → digit (valueOf c) ≡ c
+    by true a q b r d s e = let k : 16 < 16 = rw a at h in absurd (omega arith)
+    by false a true b r d s e =
+        let l : char0 ≤ c = ltb-false c char0 a in
+        let m : c ≤ char9 = leb-true c char9 b in
+        rw (a, b) (rw (lt-ltb (c - char0) 10 (omega arith)) (omega arith))
+    by false a false b true d s e = let k : 16 < 16 = rw (a, b, d) at h in absurd (omega arith)
+    by false a false b false d true e =
+        let l : charA ≤ c = ltb-false c charA d in
+        rw (a, b, d, e) (rw (le-ltb (c - charA + 10) 10 (omega arith)) (omega arith))
+    by false a false b false d false e = let k : 16 < 16 = rw (a, b, d, e) at h in absurd (omega arith)
 
 -- two texts in a row are read one after the other
 read-append : (b v : ℕ) (l m : List ℕ) → readOn b v (l ++ m) ≡ readOn b (readOn b v l) m

@@ -1,6 +1,8 @@
 -- Numbers and bytes in lowercase hex.
-use Prim.Native.Nat.{ℕ, _+_, _*_, _%_}
+use Prim.Native.Nat.{ℕ, _+_, _*_, _%_, _<_}
+use mathlib.Core.Path.{_≡_}
 use mathlib.Core.List.{List, [], _∷_, _++_}
+use lib.ListN.{getD}
 use Rattle.text.specs.Digits.{digits, valueOf}
 
 -- a number of 32 bits as eight digits
@@ -21,3 +23,7 @@ unfoldable pub bytesOf : List ℕ → List ℕ
 bytesOf [] = []
 bytesOf (c ∷ []) = []
 bytesOf (c ∷ (d ∷ l)) = pairValue c d ∷ bytesOf l
+
+-- a table of values: entry c is the value of character c
+pub record RightValues (table : List ℕ) : Type 0 where
+  pub entry : (c : ℕ) → c < 256 → getD table c 0 ≡ valueOf c

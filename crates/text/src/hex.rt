@@ -3,11 +3,56 @@ use crate::digits::HEX;
 use crate::digits::digit;
 use crate::digits::value_of;
 ghost use mathlib.Core.Path.{_≡_};
-ghost use Prim.Native.Nat.{_+_, _*_, _≤_};
+ghost use Prim.Native.Nat.{_+_, _*_, _%_, _≤_};
 ghost use lib.ListN.{length};
 ghost use Rattle.lists.specs.Lists.{over};
-ghost use Rattle.text.specs.Digits.{digits};
-ghost use Rattle.text.specs.Hex.{hexPairs, pairValue, bytesOf};
+ghost use Rattle.text.specs.Digits.{digits, valueOf};
+ghost use Rattle.text.specs.Hex.{hexPairs, pairValue, bytesOf, RightValues};
+
+// The base, as a byte: a digit's value is below it.
+pub const BASE: u8 = 16;
+
+// How many characters there are.
+pub const CHARACTERS: usize = 256;
+
+// The value of each character, 16 for one that is no hex digit: a table to be lent to a loop.
+pub fn values() -> [u8; CHARACTERS]
+    ensures { λ r. ⌜ RightValues r ⌝ }
+{
+    let mut table = [BASE; CHARACTERS];
+    table[b'0' as usize] = 0;
+    table[b'1' as usize] = 1;
+    table[b'2' as usize] = 2;
+    table[b'3' as usize] = 3;
+    table[b'4' as usize] = 4;
+    table[b'5' as usize] = 5;
+    table[b'6' as usize] = 6;
+    table[b'7' as usize] = 7;
+    table[b'8' as usize] = 8;
+    table[b'9' as usize] = 9;
+    table[b'a' as usize] = 10;
+    table[b'b' as usize] = 11;
+    table[b'c' as usize] = 12;
+    table[b'd' as usize] = 13;
+    table[b'e' as usize] = 14;
+    table[b'f' as usize] = 15;
+    table
+}
+
+// The value of a character.
+pub fn value_by(table: &[u8; CHARACTERS], c: u8) -> u8
+    requires { ⌜ RightValues (now table) ⌝ }
+    ensures { λ r. ⌜ r ≡ valueOf c ⌝ }
+{
+    table[c as usize]
+}
+
+// The byte of two values. What is no hex digit counts as 0, so that the byte fits whatever the text is.
+pub fn pair_of(high: u8, low: u8) -> u8
+    ensures { λ r. ⌜ r ≡ high % 16 * 16 + low % 16 ⌝ }
+{
+    high % BASE * BASE + low % BASE
+}
 
 // The byte of a pair. What is no hex digit counts as 0, so that the byte fits whatever the text is.
 fn pair_value(c: u8, d: u8) -> u8
