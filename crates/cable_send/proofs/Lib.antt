@@ -1,0 +1,4 @@
+pub mod LinesPut
+pub mod FramesPut
+pub mod Answers
+pub mod Example
