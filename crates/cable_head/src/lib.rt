@@ -1,0 +1,8 @@
+// The head that takes a table back from its text, fed in any cuts.
+pub mod answers;
+pub mod feeding;
+mod holding;
+mod judging;
+mod reading;
+mod scanning;
+mod settling;
