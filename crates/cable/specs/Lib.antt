@@ -1,0 +1,3 @@
+pub mod Awaited
+pub mod Inside
+pub mod Runs
