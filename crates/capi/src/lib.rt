@@ -1,12 +1,16 @@
-// The eight calls, the read of a GSUB table and the two needs for callers in C, as include/scoterlime.h declares them.
+// The eight calls, the read of a GSUB table, frames and the needs for callers in C, as include/scoterlime.h declares them.
 //
 // Each is one proved call and its answer turned into numbers. None asks anything of the lent memory's contents; that a pointer is good for
 // its length, and that lent areas do not overlap, is the caller's part.
+mod cable;
 mod calls;
 mod needs;
 mod packing;
 mod reading;
 
+pub use cable::scoterlime_feed;
+pub use cable::scoterlime_head_need;
+pub use cable::scoterlime_send;
 pub use calls::scoterlime_close;
 pub use calls::scoterlime_drop;
 pub use calls::scoterlime_link;

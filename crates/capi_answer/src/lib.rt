@@ -1,4 +1,5 @@
-// An answer as twelve numbers, a read's as seven. Values that a call does not have are 0.
+// An answer as twelve numbers, a read's as seven, a send's as two and a feed's as four. Values that a call does not have are 0.
+mod cable;
 mod reads;
 
 use answer::Answer;
@@ -12,6 +13,10 @@ use answer::named_by;
 use answer::no_table;
 use answer::nowhere;
 use answer::number_of;
+pub use cable::FedNumbers;
+pub use cable::SentNumbers;
+pub use cable::tell_fed;
+pub use cable::tell_sent;
 pub use reads::ReadNumbers;
 pub use reads::tell_read;
 ghost use mathlib.Core.Path.{_≡_};
