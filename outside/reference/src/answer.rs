@@ -45,8 +45,12 @@ pub const LAYOUT_BROKEN: u64 = 14;
 /// Of a read alone.
 pub const UNREADABLE: u64 = 15;
 pub const HOPELESS: u64 = 16;
+/// Of a feed alone: a stretch that is not the awaited frame, and no refusal, a
+/// text in which no stretch ended.
+pub const NOT_AWAITED: u64 = 17;
+pub const UNDER_WAY: u64 = 18;
 
-/// One more than the greatest number: the length of a count by numbers.
+/// One more than the greatest number of a call: the length of a count by numbers.
 pub const NUMBERS: usize = 17;
 
 /// Whether one of the eight calls tells it.

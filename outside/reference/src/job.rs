@@ -4,6 +4,7 @@ use crate::answer::{Answer, DONE, LAYOUT_BROKEN, OUT_OF_RANGE};
 use crate::call::{Call, Stores};
 use crate::limits;
 use crate::lines::hex;
+use crate::text::{number, pairs};
 
 /// A text is no longer than this.
 pub const LONGEST_TEXT: usize = 65_536;
@@ -12,9 +13,6 @@ pub const LONGEST_TEXT: usize = 65_536;
 pub const MOST_BYTES: u32 = 16_384;
 pub const MOST_PIECES: u32 = 256;
 pub const MOST_LINKS: u32 = 1_024;
-
-/// A number has no more digits than this.
-const MOST_DIGITS: usize = 9;
 
 /// An id that no closed piece has: a job has no more than 256.
 const NO_PIECE: u32 = u32::MAX;
@@ -127,29 +125,6 @@ impl Line {
         let value = line.strip_prefix(b"end=")?;
         number(value).map(Line::End)
     }
-}
-
-/// 1 to 9 digits, the first not 0 unless it is the only one.
-fn number(text: &[u8]) -> Option<u32> {
-    let digits = !text.is_empty() && text.iter().all(u8::is_ascii_digit);
-    let leading_zero = text.len() > 1 && text[0] == b'0';
-    if !digits || leading_zero || text.len() > MOST_DIGITS {
-        return None;
-    }
-    std::str::from_utf8(text).ok()?.parse().ok()
-}
-
-fn pairs(text: &[u8]) -> Option<Vec<u8>> {
-    let digit = |byte: u8| match byte {
-        b'0'..=b'9' => Some(byte - b'0'),
-        b'a'..=b'f' => Some(byte - b'a' + 10),
-        _ => None,
-    };
-    let byte = |pair: &[u8]| match *pair {
-        [high, low] => Some(16 * digit(high)? + digit(low)?),
-        _ => None,
-    };
-    text.chunks(2).map(byte).collect()
 }
 
 /// A session whose stores are as long as the job asks for and needs.

@@ -9,6 +9,7 @@
 //! * [`reader`] checks that a packed table shows a reading.
 //! * [`gsub`] reads a whole GSUB table into a session.
 //! * [`job`] runs a session and a pack that are written as lines of text.
+//! * [`frames`] sends a table as lines of text, and takes them in again.
 
 #![forbid(unsafe_code)]
 
@@ -17,6 +18,7 @@ pub mod call;
 pub mod cases;
 pub mod copies;
 mod copy_cases;
+pub mod frames;
 pub mod graph;
 pub mod graphs;
 pub mod gsub;
@@ -35,6 +37,7 @@ pub mod reading;
 pub mod session;
 pub mod sound;
 pub mod spaces;
+mod text;
 pub mod traps;
 pub mod view;
 
