@@ -32,7 +32,7 @@ awaitedAt = 8
 abbrev pub countAt : ℕ
 countAt = 12
 
--- where the held text stands, and how many bytes of a stretch are held: one more than any frame has
+-- where the held text stands, and how many bytes of a stretch are held: more than any frame has
 abbrev pub heldAt : ℕ
 heldAt = 16
 

@@ -18,7 +18,7 @@ pub const AWAITED_AT: usize = 8;
 
 pub const COUNT_AT: usize = 12;
 
-// Where the held text stands, how many bytes of a stretch are held, one more than any frame has, and how long a head is at least.
+// Where the held text stands, how many bytes of a stretch are held, more than any frame has, and how long a head is at least.
 pub const HELD_AT: usize = 16;
 
 pub const HELD: usize = 1077;
