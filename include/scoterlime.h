@@ -5,7 +5,7 @@
  *
  * The caller's duties, in every call:
  * - a pointer is good for its length: n bytes at store, r words of 32 bits at records, k bytes at bytes, o bytes at out, w words of 64 bits
- *   at work, t bytes at table, each readable, and writable where it is not const, and aligned for its type. A pointer with a length of 0 may not be null
+ *   at work, t bytes at table or at text, h bytes at head, each readable, and writable where it is not const, and aligned for its type. A pointer with a length of 0 may not be null
  *   either: give any aligned address;
  * - the areas lent to one call do not overlap;
  * - no other thread reads or writes them during the call (areas that a call only reads may be read by others).
@@ -127,6 +127,37 @@ typedef struct {
  * Refused: 13 as start, which changes nothing; then the first of 15, 6, 7, 8 and 16 that is met, which leaves the session as freshly started. */
 scoterlime_read_answer scoterlime_read_gsub(uint8_t *store, size_t n, uint32_t *records, size_t r, uint32_t piece_limit, uint32_t link_limit,
                                             const uint8_t *table, size_t t);
+
+/* What a send tells. length is 0 beside a refusal. */
+typedef struct {
+    uint64_t number;
+    uint64_t length; /* how many bytes were written */
+} scoterlime_sent;
+
+/* What a feed tells. number is 0, 10 or 13 as above, or
+ *
+ *   17  the stretch of text is not the awaited frame
+ *   18  no refusal: no stretch ended in the text */
+typedef struct {
+    uint64_t number;
+    uint64_t taken;   /* how many bytes of the text were taken */
+    uint64_t written; /* 0: how many bytes the accepted frame has; beside any other number 0 */
+    uint64_t whole;   /* 1 once all frames are in, else 0; the table is as long as all that was written */
+} scoterlime_fed;
+
+/* Writes a table of 1 to 16,777,216 bytes as frames of text to the front of out; the other bytes there stand.
+ * A frame has up to 512 bytes of the table, and its text at most 1,066: 2 for each byte, and at most 42 beside them.
+ * Refused: 13 (t is out of range), 10 (out is shorter than the text). */
+scoterlime_sent scoterlime_send(const uint8_t *table, size_t t, uint8_t *out, size_t o);
+
+/* How many bytes a head has. More is allowed; the surplus is never touched. A head whose first 16 bytes are 0 awaits the first frame. */
+uint64_t scoterlime_head_need(void);
+
+/* Takes text up to and with the first line feed that ends a line that starts with "check=", and tells what the stretch up to there is: 0 is the awaited frame, whose
+ * bytes are then at 512 times its number at out, and 10 is that too, but it has no room there. All of the text was taken if it is 18. Feed the rest, and what comes
+ * next, with the same head and the same out: how the text is cut changes nothing.
+ * Refused: 13 (h is short of the need; nothing is taken), 17, 10, and the next frame awaited is as before. */
+scoterlime_fed scoterlime_feed(uint8_t *head, size_t h, const uint8_t *text, size_t t, uint8_t *out, size_t o);
 
 #ifdef __cplusplus
 }

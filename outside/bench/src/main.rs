@@ -6,6 +6,7 @@
 
 mod closing;
 mod copying;
+mod framing;
 mod largest;
 mod looking;
 mod ordering;
@@ -25,7 +26,14 @@ pub struct Line {
 }
 
 fn main() {
-    if spaces::asked() || ordering::asked() || copying::asked() || reading::asked() {
+    let parts = [
+        spaces::asked,
+        ordering::asked,
+        copying::asked,
+        reading::asked,
+        framing::asked,
+    ];
+    if parts.iter().any(|asked| asked()) {
         return;
     }
     println!(
@@ -59,6 +67,7 @@ fn main() {
     ordering::print();
     copying::print();
     reading::print();
+    framing::print();
 }
 
 /// Speeds in gigabytes a second, of what is looked at and of what is summed.

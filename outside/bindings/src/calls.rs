@@ -4,7 +4,7 @@
 //! slices overlap nothing else that is lent.
 
 use crate::foreign;
-use crate::{Answer, GsubRead};
+use crate::{Answer, Fed, GsubRead, Sent};
 
 /// Words of 32 bits that the record store needs.
 pub fn records_need(piece_limit: u32, link_limit: u32) -> usize {
@@ -81,4 +81,22 @@ pub fn read_gsub(
     let (store, records, table) = (store.as_mut_ptr(), records.as_mut_ptr(), table.as_ptr());
     let (p, l) = (piece_limit, link_limit);
     unsafe { foreign::scoterlime_read_gsub(store, n, records, r, p, l, table, t) }
+}
+
+/// Bytes that a head needs.
+pub fn head_need() -> usize {
+    unsafe { foreign::scoterlime_head_need() as usize }
+}
+
+/// Writes a table as frames of text.
+pub fn send(table: &[u8], out: &mut [u8]) -> Sent {
+    let (t, o) = (table.len(), out.len());
+    unsafe { foreign::scoterlime_send(table.as_ptr(), t, out.as_mut_ptr(), o) }
+}
+
+/// Takes text up to the end of a stretch, and judges that one.
+pub fn feed(head: &mut [u8], text: &[u8], out: &mut [u8]) -> Fed {
+    let (h, t, o) = (head.len(), text.len(), out.len());
+    let (head, text, out) = (head.as_mut_ptr(), text.as_ptr(), out.as_mut_ptr());
+    unsafe { foreign::scoterlime_feed(head, h, text, t, out, o) }
 }

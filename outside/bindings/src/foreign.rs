@@ -1,6 +1,6 @@
 //! The declarations of include/scoterlime.h.
 
-use crate::{Answer, GsubRead};
+use crate::{Answer, Fed, GsubRead, Sent};
 
 extern "C" {
     pub fn scoterlime_records_need(piece_limit: u32, link_limit: u32) -> u64;
@@ -56,4 +56,14 @@ extern "C" {
         table: *const u8,
         t: usize,
     ) -> GsubRead;
+    pub fn scoterlime_head_need() -> u64;
+    pub fn scoterlime_send(table: *const u8, t: usize, out: *mut u8, o: usize) -> Sent;
+    pub fn scoterlime_feed(
+        head: *mut u8,
+        h: usize,
+        text: *const u8,
+        t: usize,
+        out: *mut u8,
+        o: usize,
+    ) -> Fed;
 }

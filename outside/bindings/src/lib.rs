@@ -1,7 +1,7 @@
 //! The proved packer for Rust.
 //!
-//! [`calls`] has the eight calls on any two lent stores, and the read of a whole
-//! GSUB table. [`Session`] keeps both stores borrowed from its start on, so that
+//! [`calls`] has the eight calls on any two lent stores, the read of a whole GSUB
+//! table, and a table sent as frames of text and taken in again. [`Session`] keeps both stores borrowed from its start on, so that
 //! nothing else writes them between calls. What include/scoterlime.h asks of
 //! callers holds by Rust's slices: pointers good for their lengths, never null,
 //! and no two areas that overlap:
@@ -15,7 +15,7 @@ pub mod calls;
 mod foreign;
 mod session;
 
-pub use calls::{records_need, work_need};
+pub use calls::{head_need, records_need, work_need};
 pub use session::{NotRead, Packed, Refused, Session};
 
 /// What a call tells: the struct of include/scoterlime.h. Values that a call
@@ -51,4 +51,26 @@ pub struct GsubRead {
     pub id: u64,
     /// Where in the table a field is that cannot be read.
     pub place: u64,
+}
+
+/// What a send tells: its struct of include/scoterlime.h.
+#[repr(C)]
+#[derive(Clone, Copy, Debug, Default, PartialEq, Eq)]
+pub struct Sent {
+    pub number: u64,
+    /// How long the text is.
+    pub length: u64,
+}
+
+/// What a feed tells: its struct of include/scoterlime.h.
+#[repr(C)]
+#[derive(Clone, Copy, Debug, Default, PartialEq, Eq)]
+pub struct Fed {
+    pub number: u64,
+    /// Bytes of the text that were taken.
+    pub taken: u64,
+    /// Bytes of an accepted frame, which are in the output now.
+    pub written: u64,
+    /// 1 once all frames are in.
+    pub whole: u64,
 }

@@ -9,7 +9,8 @@
 //!   leave, [`by_id`] orders that differ between these.
 //! * [`tables`] and [`crafted`] make GSUB tables of [`parts`], [`real`] has those of fonts, [`spoilt`]
 //!   damages them, [`reads`] reads them.
-//! * [`jobs`] has jobs as texts, [`program`] the proved program that runs them.
+//! * [`jobs`] has jobs as texts, [`program`] the proved program that runs them, [`frames`] texts of
+//!   frames.
 
 pub mod by_id;
 pub mod checked;
@@ -17,6 +18,7 @@ pub mod claims;
 pub mod crafted;
 pub mod decided;
 pub mod fenced;
+pub mod frames;
 pub mod groups;
 pub mod jobs;
 pub mod largest;

@@ -19,21 +19,30 @@ const ROOM: usize = HEAD - HELD;
 const KEY: &[u8] = b"check=";
 const DIFFERS: usize = KEY.len() + 1;
 
-/// What a send or a feed tells: a number, and how many bytes were written, or
-/// taken.
+/// What a send tells: a number, and how long the text is.
 #[derive(Clone, Copy, Debug, PartialEq, Eq)]
-pub struct Cable {
+pub struct Sent {
     pub number: u64,
     pub length: u64,
 }
 
-impl Cable {
-    fn new(number: u64, length: usize) -> Cable {
-        Cable {
+impl Sent {
+    fn new(number: u64, length: usize) -> Sent {
+        Sent {
             number,
             length: length as u64,
         }
     }
+}
+
+/// What a feed tells: a number, how many bytes of the text were taken and how
+/// many reached the output, and whether all frames are in.
+#[derive(Clone, Copy, Debug, PartialEq, Eq)]
+pub struct Fed {
+    pub number: u64,
+    pub taken: u64,
+    pub written: u64,
+    pub whole: bool,
 }
 
 /// CRC-32: reflected, polynomial EDB88320, start and final mask FFFFFFFF.
@@ -68,38 +77,48 @@ pub fn text(table: &[u8]) -> String {
 }
 
 /// Writes a table's text at the front of the output.
-pub fn send(table: &[u8], output: &mut [u8]) -> Cable {
+pub fn send(table: &[u8], output: &mut [u8]) -> Sent {
     if table.is_empty() || table.len() > LONGEST_TABLE {
-        return Cable::new(OUT_OF_RANGE, 0);
+        return Sent::new(OUT_OF_RANGE, 0);
     }
     let text = text(table);
     let Some(front) = output.get_mut(..text.len()) else {
-        return Cable::new(OUTPUT_SHORT, 0);
+        return Sent::new(OUTPUT_SHORT, 0);
     };
     front.copy_from_slice(text.as_bytes());
-    Cable::new(DONE, text.len())
+    Sent::new(DONE, text.len())
 }
 
 /// Takes text up to the end of a stretch, and judges that one.
-pub fn feed(head: &mut [u8], text: &[u8], output: &mut [u8]) -> Cable {
+pub fn feed(head: &mut [u8], text: &[u8], output: &mut [u8]) -> Fed {
     if head.len() < HEAD {
-        return Cable::new(OUT_OF_RANGE, 0);
+        return Fed {
+            number: OUT_OF_RANGE,
+            taken: 0,
+            written: 0,
+            whole: false,
+        };
     }
     let mut state = State::of(head);
     let ended = text.iter().position(|&byte| state.take(byte));
-    let told = match ended {
-        Some(last) => Cable::new(state.end(output), last + 1),
-        None => Cable::new(UNDER_WAY, text.len()),
+    let (number, written) = match ended {
+        Some(_) => state.end(output),
+        None => (UNDER_WAY, 0),
     };
     state.write(head);
-    told
+    Fed {
+        number,
+        taken: ended.map_or(text.len(), |last| last + 1) as u64,
+        written: written as u64,
+        whole: state.count > 0 && state.awaited == state.count,
+    }
 }
 
 /// What a head holds.
 struct State {
     /// The stretch under way, as far as there is room.
     held: Vec<u8>,
-    /// How far its last line agrees with the key, or that it differs.
+    /// How far its last line agrees with the key; more where it differs.
     agrees: usize,
     awaited: u32,
     /// The first accepted frame's, or 0.
@@ -115,7 +134,7 @@ impl State {
         let length = (number(0) as usize).min(ROOM);
         State {
             held: head[HELD..HELD + length].to_vec(),
-            agrees: (number(1) as usize).min(DIFFERS),
+            agrees: number(1) as usize,
             awaited: number(2),
             count: number(3),
         }
@@ -149,20 +168,20 @@ impl State {
         ends
     }
 
-    /// The answer to a whole stretch.
-    fn end(&mut self, output: &mut [u8]) -> u64 {
+    /// The answer to a whole stretch, and how many bytes reached the output.
+    fn end(&mut self, output: &mut [u8]) -> (u64, usize) {
         let stretch = std::mem::take(&mut self.held);
         let Some((count, bytes)) = self.accepted(&stretch) else {
-            return NOT_AWAITED;
+            return (NOT_AWAITED, 0);
         };
         let begin = FRAME * self.awaited as usize;
         let Some(part) = output.get_mut(begin..begin + bytes.len()) else {
-            return OUTPUT_SHORT;
+            return (OUTPUT_SHORT, 0);
         };
         part.copy_from_slice(&bytes);
         self.awaited += 1;
         self.count = count;
-        DONE
+        (DONE, bytes.len())
     }
 
     /// The count and the bytes of the awaited frame, if the stretch is just that.

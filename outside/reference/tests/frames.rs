@@ -3,15 +3,21 @@
 mod common;
 
 use common::Numbers;
-use reference::frames::{crc, feed, frame, send, text, Cable, HEAD};
+use reference::frames::{self, crc, frame, send, text, Sent, HEAD};
 
 const STALE: u8 = 0xa5;
 
-fn told(number: u64, length: usize) -> Cable {
-    Cable {
+/// The number, and how many bytes were written or taken.
+fn told(number: u64, length: usize) -> Sent {
+    Sent {
         number,
         length: length as u64,
     }
+}
+
+fn feed(head: &mut [u8], text: &[u8], output: &mut [u8]) -> Sent {
+    let fed = frames::feed(head, text, output);
+    told(fed.number, fed.taken as usize)
 }
 
 /// A head that is fed, with the output of all its feeds.
@@ -30,7 +36,7 @@ impl Fed {
         }
     }
 
-    fn feed(&mut self, text: &[u8]) -> Cable {
+    fn feed(&mut self, text: &[u8]) -> Sent {
         let told = feed(&mut self.head, text, &mut self.output);
         assert_eq!(self.head[HEAD..], [STALE; 3]);
         told
@@ -544,4 +550,25 @@ fn what_is_sent_arrives() {
             assert_eq!(fed.output[length..], [STALE; 2]);
         }
     }
+}
+
+#[test]
+fn bytes_that_arrive_are_told_and_when_all_are_in() {
+    let table = [7; 700];
+    let text = text(&table);
+    let first = frame(0, 2, &table[..512]).len();
+    let (mut head, mut output) = (vec![0; HEAD], vec![0; 700]);
+    let mut feed = |text: &str| {
+        let fed = frames::feed(&mut head, text.as_bytes(), &mut output);
+        (fed.number, fed.written, fed.whole)
+    };
+    assert_eq!(feed(&text[..first - 1]), (18, 0, false));
+    assert_eq!(feed(&text[first - 1..]), (0, 512, false));
+    assert_eq!(feed("check=\n"), (17, 0, false));
+    assert_eq!(feed(&text[first..]), (0, 188, true));
+    assert_eq!(feed("check=\n"), (17, 0, true));
+    assert_eq!(feed(""), (18, 0, true));
+    let mut short = vec![0; HEAD - 1];
+    let fed = frames::feed(&mut short, b"", &mut []);
+    assert_eq!((fed.number, fed.written, fed.whole), (13, 0, false));
 }

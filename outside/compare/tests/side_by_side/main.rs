@@ -6,6 +6,7 @@ mod calls;
 mod cases;
 mod copies;
 mod ends;
+mod frames;
 mod full;
 mod graphs;
 mod gsub;
