@@ -19,10 +19,11 @@ use Rattle.model.proofs.Verdicts.{refused-number}
 use Rattle.model.proofs.Closings.{Known, known-equal, known-closed, known-all}
 use Rattle.steps.specs.Runs.{StoreCall, asCall}
 use Rattle.steps.specs.Runs as calls
+use Rattle.steps.specs.Mirrored.{Step, byHistory}
 use Rattle.gsub.specs.declared.Kind.{Kind}
 use Rattle.gsub.specs.declared.Field.{Field}
 use Rattle.gsub.specs.Tables.{fieldsAt}
-use Rattle.gsub.specs.Ops.{Act, keep, follow, refuse, valueAt, act, Op, begin, put, link, end, stop, actOps, fieldsOps, tableOps, Step, Outcome, outcome, goOn, perform, onHistory}
+use Rattle.gsub.specs.Ops.{Act, keep, follow, refuse, valueAt, act, Op, begin, put, link, end, stop, actOps, fieldsOps, tableOps, Outcome, outcome, goOn, perform}
 use Rattle.gsub.specs.Meaning.{actBytes, ownBytes, actReading, fieldsReading, tableReading}
 use Rattle.gsub.proofs.Grows.{onBytes, on-same, on-whole, on-put, on-link, size-put, size-link}
 
@@ -46,7 +47,7 @@ goes-on t o z = go (eqb (t .number) 0) refl z
 -- in stores of these lengths
 module _ (n : Needs) (store records : ℕ) where
   abbrev call : StoreCall → History → Step History
-  call = onHistory n store records
+  call = byHistory n store records
 
   -- ---- one call
 

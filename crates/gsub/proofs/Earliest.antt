@@ -8,7 +8,8 @@ use borrow.Author.Tests.{eqb-true, eq-eqb}
 use lib.Dec.{eqb}
 use Rattle.lists.specs.Lists.{pick, Exactly}
 use Rattle.steps.specs.Runs.{StoreCall, open', put as putCall, link as linkCall, close}
-use Rattle.gsub.specs.Ops.{badTable, Op, begin, put, link, end, stop, Step, Outcome, outcome, perform}
+use Rattle.steps.specs.Mirrored.{Step}
+use Rattle.gsub.specs.Ops.{badTable, Op, begin, put, link, end, stop, Outcome, outcome, perform}
 use Rattle.gsub.specs.Refusals.{Reaches, Settles}
 
 module _ {S : Type 0} (call : StoreCall → S → Step S) where

@@ -1,38 +1,23 @@
 -- Ops made on two stores come to what they come to on the history that the stores hold.
-use mathlib.Core.Path.{_≡_, refl, sym, ap, subst, _∙_}
+use mathlib.Core.Path.{_≡_, refl, sym, subst}
 use Prim.Native.Nat.{ℕ}
 use mathlib.Core.List.{List, [], _∷_}
 use mathlib.Core.Bool.{Bool, true, false}
 use lib.Dec.{eqb}
-use lib.ListN.{length}
 use Rattle.lists.specs.Lists.{pick}
 use Rattle.model.specs.Judge.{Limits}
-use Rattle.model.specs.Told.{Told}
-use Rattle.model.specs.Session.{Needs, Session, sessionCall, step, afterCall}
-use Rattle.model.specs.History.{History, expected, Agrees}
-use Rattle.model.proofs.Mirrors.{Mirrors}
-use Rattle.model.proofs.Agreement.{call-agrees, call-mirrors}
-use Rattle.steps.specs.Runs.{StoreCall, Stores, stepOn, asCall, needsWith, Drawn}
+use Rattle.model.specs.History.{History}
+use Rattle.steps.specs.Runs.{StoreCall, Stores, asCall, needsWith}
 use Rattle.steps.specs.Runs as calls
-use Rattle.steps.proofs.Steps.{step-drawn}
-use Rattle.gsub.specs.Ops.{Op, begin, put, link, end, stop, Step, Outcome, outcome, goOn, perform, onStores, onHistory}
-
--- the stores hold a session that mirrors the history
-pub record Stands (s : Stores) (h : History) : Type 0 where
-  pub session : Session
-  pub drawn : Drawn s session
-  pub mirrors : Mirrors session h
+use Rattle.steps.specs.Mirrored.{Step, byStores, byHistory}
+use Rattle.steps.proofs.Mirrored.{Stands, SameStep, one-agrees}
+use Rattle.gsub.specs.Ops.{Op, begin, put, link, end, stop, Outcome, outcome, goOn, perform}
 
 pub record SameOutcome (o : Outcome Stores) (p : Outcome History) : Type 0 where
   pub number-same : o .number ≡ p .number
   pub id-same : o .id ≡ p .id
   pub place-same : o .place ≡ p .place
   pub stands : Stands (o .next) (p .next)
-
-pub record SameStep (t : Step Stores) (u : Step History) : Type 0 where
-  pub number-same : t .number ≡ u .number
-  pub id-same : t .id ≡ u .id
-  pub stands : Stands (t .next) (u .next)
 
 go-on : {t : Step Stores} {u : Step History} {o : Outcome Stores} {p : Outcome History} → SameStep t u → SameOutcome o p → SameOutcome (goOn t o) (goOn u p)
 go-on {t} {u} {o} {p} s l = rw (s .number-same) (go (eqb (u .number) 0))
@@ -42,27 +27,11 @@ go-on {t} {u} {o} {p} s l = rw (s .number-same) (go (eqb (u .number) 0))
     go false = record { number-same = refl; id-same = refl; place-same = refl; stands = s .stands }
 
 module _ (work : Limits → ℕ → ℕ) (store records : ℕ) where
-  abbrev n : Needs
-  n = needsWith work
-
   abbrev call : StoreCall → History → Step History
-  call = onHistory n store records
-
-  -- a call that does not ask how long the stores are
-  pub one-agrees : (c : StoreCall) {s : Stores} {h : History} → Stands s h → asCall (length (s .bytes)) (length (s .words)) c ≡ asCall store records c → SameStep (onStores c s) (call c h)
-  unfolding Agrees afterCall
-  one-agrees c {s} {h} k e =
-      let a = asCall (length (s .bytes)) (length (s .words)) c in
-      let f = step-drawn work c s (k .session) (k .drawn) in
-      let told : stepOn c s .told ≡ expected n a h = f .told ∙ call-agrees n (k .mirrors) (sessionCall a) in
-      rw (← e) record {
-        number-same = ap (λ (x : Told). x .number) told;
-        id-same = ap (λ (x : Told). x .id) told;
-        stands = record { session = step n a (k .session) .after; drawn = f .drawn; mirrors = call-mirrors n (k .mirrors) (sessionCall a) };
-      }
+  call = byHistory (needsWith work) store records
 
   record Agreeing (ops : List Op) : Type 0 where
-    agree : (i : ℕ) (s : Stores) (h : History) → Stands s h → SameOutcome (perform onStores ops i s) (perform call ops i h)
+    agree : (i : ℕ) (s : Stores) (h : History) → Stands s h → SameOutcome (perform byStores ops i s) (perform call ops i h)
 
   none-agree : Agreeing []
   unfolding perform
@@ -76,22 +45,22 @@ module _ (work : Limits → ℕ → ℕ) (store records : ℕ) where
   module _ (ops : List Op) (later : Agreeing ops) where
     begin-agree : Agreeing (begin ∷ ops)
     unfolding perform asCall
-    begin-agree = record { agree = λ i s h k. let z = one-agrees calls.open' k refl in go-on z (later .agree i _ _ (z .stands)) }
+    begin-agree = record { agree = λ i s h k. let z = one-agrees work store records calls.open' k refl in go-on z (later .agree i _ _ (z .stands)) }
 
     put-agree : (vs : List ℕ) → Agreeing (put vs ∷ ops)
     unfolding perform asCall
-    put-agree vs = record { agree = λ i s h k. let z = one-agrees (calls.put vs) k refl in go-on z (later .agree i _ _ (z .stands)) }
+    put-agree vs = record { agree = λ i s h k. let z = one-agrees work store records (calls.put vs) k refl in go-on z (later .agree i _ _ (z .stands)) }
 
     link-agree : (w : ℕ) → Agreeing (link w ∷ ops)
     unfolding perform asCall
-    link-agree w = record { agree = λ i s h k. let z = one-agrees (calls.link w i 0) k refl in go-on z (later .agree i _ _ (z .stands)) }
+    link-agree w = record { agree = λ i s h k. let z = one-agrees work store records (calls.link w i 0) k refl in go-on z (later .agree i _ _ (z .stands)) }
 
     end-agree : Agreeing (end ∷ ops)
     unfolding perform asCall
     end-agree = record {
       agree = λ i s h k.
-          let z = one-agrees calls.close k refl in
-          subst (λ j. SameOutcome (goOn (onStores calls.close s) (perform onStores ops j (onStores calls.close s .next))) (perform call (end ∷ ops) i h)) (sym (z .id-same))
+          let z = one-agrees work store records calls.close k refl in
+          subst (λ j. SameOutcome (goOn (byStores calls.close s) (perform byStores ops j (byStores calls.close s .next))) (perform call (end ∷ ops) i h)) (sym (z .id-same))
           (go-on z (later .agree (call calls.close h .id) _ _ (z .stands)));
     }
 
@@ -103,5 +72,5 @@ module _ (work : Limits → ℕ → ℕ) (store records : ℕ) where
   agreeing (end ∷ ops) = end-agree ops (agreeing ops)
   agreeing (stop p ∷ ops) = stop-agree p ops
 
-  pub ops-agree : (ops : List Op) (i : ℕ) (s : Stores) (h : History) → Stands s h → SameOutcome (perform onStores ops i s) (perform call ops i h)
+  pub ops-agree : (ops : List Op) (i : ℕ) (s : Stores) (h : History) → Stands s h → SameOutcome (perform byStores ops i s) (perform call ops i h)
   ops-agree ops = agreeing ops .agree

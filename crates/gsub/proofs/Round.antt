@@ -9,8 +9,9 @@ use Rattle.model.specs.History.{History}
 use Rattle.model.proofs.Closings.{known-equal}
 use Rattle.steps.specs.Runs.{StoreCall}
 use Rattle.steps.specs.Runs as calls
+use Rattle.steps.specs.Mirrored.{Step, byHistory}
 use Rattle.gsub.specs.declared.Kind.the-variants.{Header}
-use Rattle.gsub.specs.Ops.{Op, begin, put, link, end, stop, tableOps, Step, Outcome, goOn, perform, onHistory}
+use Rattle.gsub.specs.Ops.{Op, begin, put, link, end, stop, tableOps, Outcome, goOn, perform}
 use Rattle.gsub.specs.Meaning.{deepest, gsubReading}
 use Rattle.gsub.proofs.Accepted.{goes-on, whole-read}
 use Rattle.gsub.proofs.Again.{Clean, ops-again, wide-table}
@@ -34,7 +35,7 @@ module _ {S : Type 0} (call : StoreCall → S → Step S) where
 
 module _ (n : Needs) (store records : ℕ) (h : History) where
   abbrev made : List Op → Outcome History
-  made ops = perform (onHistory n store records) ops 0 h
+  made ops = perform (byHistory n store records) ops 0 h
 
   abbrev ops : List ℕ → List Op
   ops b = tableOps deepest b Header 0
@@ -55,5 +56,5 @@ module _ (n : Needs) (store records : ℕ) (h : History) where
 
   pub read-again : (b t : List ℕ) → made (ops b) .number ≡ 0 → Shows t 0 (gsubReading b) → (Wide (gsubReading b) → Apart t 0 (gsubReading b)) → Again b t
   read-again b t z s a =
-      let e = ops-again b t deepest Header 0 0 (clean-done (onHistory n store records) (ops b) 0 h z) (record { own = s .0; fields = s .1; apart = a (wide-table b deepest Header 0) }) in
+      let e = ops-again b t deepest Header 0 0 (clean-done (byHistory n store records) (ops b) 0 h z) (record { own = s .0; fields = s .1; apart = a (wide-table b deepest Header 0) }) in
       record { ops-same = e; reading = reading-again b t e z }

@@ -23,13 +23,14 @@ use Rattle.model.proofs.Verdicts.{refused-number}
 use Rattle.model.proofs.Closings.{known-closed}
 use Rattle.steps.specs.Runs.{StoreCall, asCall}
 use Rattle.steps.specs.Runs as calls
+use Rattle.steps.specs.Mirrored.{Step, byHistory}
 use Rattle.gsub.specs.declared.Kind.{Kind}
 use Rattle.gsub.specs.declared.Field.{Field}
 use Rattle.gsub.specs.declared.Kind.the-variants.{Header, ScriptList, Script, LangSys, FeatureList, Feature, LookupList, Lookup, SingleSubst, Coverage}
 use Rattle.gsub.specs.Tables.{shape, fieldsOf, wordAt, fieldsAt, singleSubst1, singleSubst2, coverage1, coverage2}
 use Rattle.gsub.specs.Meaning.{deepest}
 use Rattle.gsub.proofs.Settled.{by-two}
-use Rattle.gsub.specs.Ops.{Act, keep, follow, refuse, valueAt, act, Op, begin, put, link, end, actOps, fieldsOps, tableOps, Step, Outcome, outcome, goOn, perform, onHistory}
+use Rattle.gsub.specs.Ops.{Act, keep, follow, refuse, valueAt, act, Op, begin, put, link, end, actOps, fieldsOps, tableOps, Outcome, outcome, goOn, perform}
 use Rattle.gsub.specs.Refusals.{tellable}
 use Rattle.gsub.proofs.Grows.{size-put, size-link}
 use Rattle.gsub.proofs.Accepted.{act-room}
@@ -98,7 +99,7 @@ others-length (r ∷ l) d e = omega arith
 
 module _ (n : Needs) (store records : ℕ) where
   abbrev call : StoreCall → History → Step History
-  call = onHistory n store records
+  call = byHistory n store records
 
   told-by : (v : Verdict) (t u : Tally) (i : ℕ) → tell v t (doneClose i u) .number ≡ numberOf v
   told-by accepted t u i = refl

@@ -7,8 +7,9 @@ use lib.Dec.{eqb}
 use Rattle.model.specs.Judge.{Limits}
 use Rattle.model.specs.Session.{Needs}
 use Rattle.model.specs.History.{History, begun}
+use Rattle.steps.specs.Mirrored.{byHistory}
 use Rattle.gsub.specs.declared.Kind.the-variants.{Header}
-use Rattle.gsub.specs.Ops.{Outcome, tableOps, perform, onHistory}
+use Rattle.gsub.specs.Ops.{Outcome, tableOps, perform}
 use Rattle.gsub.specs.Meaning.{deepest, gsubReading}
 use Rattle.gsub.specs.Substitute.{substitute, substituteFrom}
 
@@ -51,7 +52,7 @@ abbrev noNeeds : Needs
 noNeeds = record { records = λ m. 0; work = λ m copies. 0 }
 
 unfoldable pub readIn : Limits → List ℕ → Outcome History
-readIn m b = perform (onHistory noNeeds 0 0) (tableOps deepest b Header 0) 0 (begun m)
+readIn m b = perform (byHistory noNeeds 0 0) (tableOps deepest b Header 0) 0 (begun m)
 
 -- a table, the limits that it is read in, and the number and the place told
 pub record Case : Type 0 where

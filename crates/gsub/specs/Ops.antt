@@ -12,10 +12,9 @@ use Rattle.gsub.specs.declared.Field.{Field}
 pub use Rattle.gsub.specs.declared.Act.{Act}
 pub use Rattle.gsub.specs.declared.Act.the-variants.{Keep as keep, Follow as follow, Refuse as refuse}
 use Rattle.gsub.specs.Tables.{fieldsAt}
-use Rattle.model.specs.Session.{Needs, sessionCall}
-use Rattle.model.specs.History.{History, expected, after}
-use Rattle.steps.specs.Runs.{StoreCall, Stores, stepOn, asCall}
+use Rattle.steps.specs.Runs.{StoreCall}
 use Rattle.steps.specs.Runs as calls
+use Rattle.steps.specs.Mirrored.{Step}
 
 -- ---- one field
 
@@ -62,12 +61,6 @@ tableOps (suc n) b k p = begin ∷ (fieldsOps (tableOps n b) b p 0 (fieldsAt b k
 
 -- ---- the ops made, one call after the other, up to the first refusal
 
--- what a call told, and what it left
-pub record Step (S : Type 0) : Type 0 where
-  pub number : ℕ
-  pub id : ℕ
-  pub next : S
-
 -- the number told, the root's id, refusal 15's place, and what is left
 pub record Outcome (S : Type 0) : Type 0 where
   pub number : ℕ
@@ -90,13 +83,3 @@ perform call (put vs ∷ ops) i s = let t = call (calls.put vs) s in goOn t (per
 perform call (link w ∷ ops) i s = let t = call (calls.link w i 0) s in goOn t (perform call ops i (t .next))
 perform call (end ∷ ops) i s = let t = call calls.close s in goOn t (perform call ops (t .id) (t .next))
 perform call (stop p ∷ ops) i s = outcome badTable 0 p s
-
--- ---- the calls on the two stores; on the history, in stores of these lengths
-
-abbrev pub onStores : StoreCall → Stores → Step Stores
-onStores c s = let l = stepOn c s in record { number = l .told .number; id = l .told .id; next = l .stores }
-
-abbrev pub onHistory : Needs → ℕ → ℕ → StoreCall → History → Step History
-onHistory n bytes words c h =
-    let t = expected n (asCall bytes words c) h in
-    record { number = t .number; id = t .id; next = after n (sessionCall (asCall bytes words c)) h }

@@ -8,12 +8,13 @@ use lib.Dec.{eqb}
 use Rattle.answer.specs.Number.{number}
 use Rattle.answer.specs.declared.Refusal.the-variants as Refusal
 use Rattle.steps.specs.Runs.{StoreCall}
+use Rattle.steps.specs.Mirrored.{Step}
 use Rattle.gsub.specs.declared.Kind.{Kind}
 use Rattle.gsub.specs.declared.Kind.the-variants.{Header}
 use Rattle.gsub.specs.declared.Rule.the-variants.{Only, To}
 use Rattle.gsub.specs.declared.Field.{Field}
 use Rattle.gsub.specs.Tables.{fieldsAt}
-use Rattle.gsub.specs.Ops.{valueAt, act, follow, badTable, Op, Step, perform}
+use Rattle.gsub.specs.Ops.{valueAt, act, follow, badTable, Op, perform}
 
 -- why a field at a place of the slice is refused: it passes the end; it holds another number than it must; it leads to no table
 pub data Bad (b : List ℕ) (at : ℕ) (f : Field) : Type 0 where

@@ -14,13 +14,13 @@ use Rattle.model_orders.proofs.Arrangements.{chosen-reads}
 use Rattle.layout.specs.Decode.{decode}
 use Rattle.steps.specs.Steps.{limitsOf}
 use Rattle.steps.specs.Runs.{Stores, pack, lentStep, needsWith}
+use Rattle.steps.specs.Mirrored.{byHistory}
 use Rattle.steps.proofs.Tallies.{count-decode}
 use Rattle.claims.specs.Orders.{graphIn, tableOn, Ordered}
 use Rattle.claims.proofs.Packs.{base}
 use Rattle.claims.proofs.Orders.{accepted-ordered}
 use Rattle.gsub.specs.Meaning.{gsubReading}
 use Rattle.gsub.specs.Substitute.{substitute}
-use Rattle.gsub.specs.Ops.{onHistory}
 use Rattle.gsub.proofs.Again.{Clean}
 use Rattle.gsub.proofs.Round.{clean-done, read-again}
 use Rattle.gsub.proofs.Substitutes.{substitute-read}
@@ -84,7 +84,7 @@ module _ (b : List ℕ) (objects links : ℕ) (s : Stores) (accepted : readStep 
       let k = shown-apart after root copies out work z in
       let t = tableIn (lentStep (pack root copies out work) after) in
       let a = read-again (needsWith noWork) (length (s .bytes)) (length (s .words)) (begun (limitsOf objects links (s .bytes))) b t done-too (rw root-reads at (k .shown)) (rw root-reads at (k .apart)) in
-      let clean : Clean (gsubOps b) = clean-done (onHistory (needsWith noWork) (length (s .bytes)) (length (s .words))) (gsubOps b) 0 _ done-too in
+      let clean : Clean (gsubOps b) = clean-done (byHistory (needsWith noWork) (length (s .bytes)) (length (s .words))) (gsubOps b) 0 _ done-too in
       let same : (r : Stores) → readStep t objects links r ≡ readStep b objects links r = same-ops b t objects links (a .ops-same) in
       record {
         accepted = λ r e f. ap (λ (x : ReadLeft). x .told .number) (same r) ∙ ap (λ (x : ReadTold). x .number) (same-told b objects links r s e f) ∙ accepted;

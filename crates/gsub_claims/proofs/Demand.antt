@@ -10,11 +10,11 @@ use Rattle.model.specs.History.{begun}
 use Rattle.layout.specs.Sound.{sound}
 use Rattle.work.specs.Areas.{workNeed}
 use Rattle.steps.specs.Steps.{limitsOf}
-use Rattle.steps.specs.Runs.{StoreCall, start, Stores, stepOn, LentCall, onStores, pack, lentStep}
+use Rattle.steps.specs.Runs.{StoreCall, start, Stores, stepOn, leftAfter, LentCall, onStores, pack, lentStep}
 use Rattle.steps.proofs.Steps.{sound-drawn, step-drawn, start-drawn}
 use Rattle.claims.specs.Demand.{Made, run, storesAfter, AllClaim}
 use Rattle.claims.proofs.Demand.{demand-3}
-use Rattle.gsub_read.specs.Read.{readStep, readCalls, leftAfter}
+use Rattle.gsub_read.specs.Read.{readStep, readCalls}
 use Rattle.gsub_read.proofs.Listed.{read-told, read-listed}
 use Rattle.gsub_claims.specs.Demand.{MadeRead, AnyMade, call, read, RanAny, none, more, more-read, standsFor, asCalls, ReadsRight, EveryAnyList}
 

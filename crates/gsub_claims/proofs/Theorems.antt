@@ -25,8 +25,9 @@ use Rattle.model.specs.History.{History, counts, begun, judged, tell, expected}
 use Rattle.model.proofs.Verdicts.{number-range}
 use Rattle.steps.specs.Steps.{limitsOf}
 use Rattle.steps.specs.Runs.{StoreCall, Stores, start, stepOn, asCall}
+use Rattle.steps.specs.Mirrored.{Step, byHistory}
 use Rattle.claims.specs.Demand.{needs}
-use Rattle.gsub.specs.Ops.{badTable, stop, Step, Outcome, perform, onHistory}
+use Rattle.gsub.specs.Ops.{badTable, stop, Outcome, perform}
 use Rattle.gsub.specs.Refusals.{BadAt, Reaches, Settles}
 use Rattle.gsub.proofs.Refusals.{stops-exactly}
 use Rattle.gsub.proofs.Earliest.{earliest, told-stop}
@@ -41,7 +42,7 @@ module _ (b : List ℕ) (objects links : ℕ) (s : Stores) (begins : stepOn (sta
 
   -- the calls on the history, and what it is after the start
   abbrev call : StoreCall → History → Step History
-  call = onHistory needs (length (s .bytes)) (length (s .words))
+  call = byHistory needs (length (s .bytes)) (length (s .words))
 
   abbrev fresh : History
   fresh = begun (limitsOf objects links (s .bytes))

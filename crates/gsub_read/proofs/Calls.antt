@@ -5,23 +5,24 @@ use mathlib.Core.List.{List, [], _∷_}
 use native.Mathlib.Omega.{arith}
 use Rattle.model.specs.Judge.{Limits}
 use Rattle.model.specs.History.{History}
-use Rattle.steps.specs.Runs.{StoreCall, Stores, stepOn, asCall, needsWith}
+use Rattle.steps.specs.Runs.{StoreCall, Stores, stepOn, leftAfter, asCall, needsWith}
 use Rattle.steps.specs.Runs as calls
-use Rattle.gsub.specs.Ops.{Op, begin, put, link, end, stop, goOn, perform, onStores, onHistory}
+use Rattle.steps.specs.Mirrored.{byStores, byHistory}
+use Rattle.steps.proofs.Mirrored.{Stands, one-agrees}
+use Rattle.gsub.specs.Ops.{Op, begin, put, link, end, stop, goOn, perform}
 use Rattle.gsub.proofs.Accepted.{goes-on}
-use Rattle.gsub.proofs.Lifts.{Stands, one-agrees}
-use Rattle.gsub_read.specs.Read.{callsIn, leftAfter}
+use Rattle.gsub_read.specs.Read.{callsIn}
 
 -- ---- accepted ops leave what their calls leave
 
 record Listed (ops : List Op) : Type 0 where
-  listed : (i : ℕ) (s : Stores) → perform onStores ops i s .number ≡ 0 → leftAfter (callsIn onStores ops i s) s ≡ perform onStores ops i s .next
+  listed : (i : ℕ) (s : Stores) → perform byStores ops i s .number ≡ 0 → leftAfter (callsIn byStores ops i s) s ≡ perform byStores ops i s .next
 
 module _ (ops : List Op) (later : Listed ops) where
-  one-listed : (i : ℕ) (s : Stores) (c : StoreCall) → goOn (onStores c s) (perform onStores ops i (onStores c s .next)) .number ≡ 0
-      → leftAfter (callsIn onStores ops i (stepOn c s .stores)) (stepOn c s .stores) ≡ goOn (onStores c s) (perform onStores ops i (onStores c s .next)) .next
+  one-listed : (i : ℕ) (s : Stores) (c : StoreCall) → goOn (byStores c s) (perform byStores ops i (byStores c s .next)) .number ≡ 0
+      → leftAfter (callsIn byStores ops i (stepOn c s .stores)) (stepOn c s .stores) ≡ goOn (byStores c s) (perform byStores ops i (byStores c s .next)) .next
   one-listed i s c z =
-      let e = goes-on (onStores c s) (perform onStores ops i (onStores c s .next)) z in
+      let e = goes-on (byStores c s) (perform byStores ops i (byStores c s .next)) z in
       later .listed i (stepOn c s .stores) (ap (λ o. o .number) (sym e) ∙ z) ∙ ap (λ o. o .next) (sym e)
 
   begin-listed : Listed (begin ∷ ops)
@@ -38,7 +39,7 @@ module _ (ops : List Op) (later : Listed ops) where
 
   end-listed : Listed (end ∷ ops)
   unfolding perform callsIn leftAfter
-  end-listed = record { listed = λ i s z. one-listed (onStores calls.close s .id) s calls.close z }
+  end-listed = record { listed = λ i s z. one-listed (byStores calls.close s .id) s calls.close z }
 
 none-listed : Listed []
 unfolding perform callsIn leftAfter
@@ -56,13 +57,13 @@ listing (link w ∷ ops) = link-listed ops (listing ops) w
 listing (end ∷ ops) = end-listed ops (listing ops)
 listing (stop p ∷ ops) = stop-listed p ops
 
-pub ops-listed : (ops : List Op) (i : ℕ) (s : Stores) → perform onStores ops i s .number ≡ 0 → leftAfter (callsIn onStores ops i s) s ≡ perform onStores ops i s .next
+pub ops-listed : (ops : List Op) (i : ℕ) (s : Stores) → perform byStores ops i s .number ≡ 0 → leftAfter (callsIn byStores ops i s) s ≡ perform byStores ops i s .next
 ops-listed ops = listing ops .listed
 
 -- ---- the calls made on stores that hold a history are those made on it
 
 module _ (work : Limits → ℕ → ℕ) (store records : ℕ) where
-  pub same-calls : (ops : List Op) (i : ℕ) {s : Stores} {h : History} → Stands s h → callsIn onStores ops i s ≡ callsIn (onHistory (needsWith work) store records) ops i h
+  pub same-calls : (ops : List Op) (i : ℕ) {s : Stores} {h : History} → Stands s h → callsIn byStores ops i s ≡ callsIn (byHistory (needsWith work) store records) ops i h
   unfolding callsIn asCall
   same-calls [] i k = refl
   same-calls (begin ∷ ops) i k = ap (λ cs. calls.open' ∷ cs) (same-calls ops i (one-agrees work store records calls.open' k refl .stands))
@@ -70,5 +71,5 @@ module _ (work : Limits → ℕ → ℕ) (store records : ℕ) where
   same-calls (link w ∷ ops) i k = ap (λ cs. calls.link w i 0 ∷ cs) (same-calls ops i (one-agrees work store records (calls.link w i 0) k refl .stands))
   same-calls (end ∷ ops) i {s} {h} k =
       let z = one-agrees work store records calls.close k refl in
-      ap (λ cs. calls.close ∷ cs) (ap (λ j. callsIn onStores ops j (onStores calls.close s .next)) (z .id-same) ∙ same-calls ops _ (z .stands))
+      ap (λ cs. calls.close ∷ cs) (ap (λ j. callsIn byStores ops j (byStores calls.close s .next)) (z .id-same) ∙ same-calls ops _ (z .stands))
   same-calls (stop p ∷ ops) i k = refl

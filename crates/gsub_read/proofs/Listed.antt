@@ -19,17 +19,19 @@ use Rattle.model.proofs.Mirrors.{mirrors-started, mirrors-counts}
 use Rattle.model.proofs.Closings.{Known}
 use Rattle.layout.specs.Words.{need}
 use Rattle.steps.specs.Steps.{tallyIn, limitsOf}
-use Rattle.steps.specs.Runs.{StoreCall, Stores, start, stepOn, needsWith}
+use Rattle.steps.specs.Runs.{StoreCall, Stores, start, stepOn, leftAfter, needsWith}
+use Rattle.steps.specs.Mirrored.{byStores, byHistory}
 use Rattle.steps.proofs.Tallies.{tally-decode}
 use Rattle.steps.proofs.Steps.{start-drawn}
+use Rattle.steps.proofs.Mirrored.{Stands}
 use Rattle.gsub.specs.declared.Kind.the-variants.{Header}
-use Rattle.gsub.specs.Ops.{Outcome, perform, onStores, onHistory}
+use Rattle.gsub.specs.Ops.{Outcome, perform}
 use Rattle.gsub.specs.Meaning.{deepest, gsubReading}
 use Rattle.gsub.specs.Refusals.{tellable}
 use Rattle.gsub.proofs.Accepted.{whole-read}
 use Rattle.gsub.proofs.Told.{tells-few}
-use Rattle.gsub.proofs.Lifts.{Stands, SameOutcome, ops-agree}
-use Rattle.gsub_read.specs.Read.{refusedRead, doneRead, toldOf, gsubOps, ReadLeft, settled, readStep, callsIn, historyRead, readExpected, readTells, readCalls, leftAfter}
+use Rattle.gsub.proofs.Lifts.{SameOutcome, ops-agree}
+use Rattle.gsub_read.specs.Read.{refusedRead, doneRead, toldOf, gsubOps, ReadLeft, settled, readStep, callsIn, historyRead, readExpected, readTells, readCalls}
 use Rattle.gsub_read.proofs.Surplus.{ops-stay}
 use Rattle.gsub_read.proofs.Fresh.{start-number, refused-stands, start-begun, fresh}
 use Rattle.gsub_read.proofs.Calls.{ops-listed, same-calls}
@@ -65,7 +67,7 @@ module _ (b : List ℕ) (objects links : ℕ) (s : Stores) where
   m = limitsOf objects links (s .bytes)
 
   abbrev came : Outcome Stores
-  came = perform onStores (gsubOps b) 0 s₁
+  came = perform byStores (gsubOps b) 0 s₁
 
   abbrev read : ReadLeft
   read = readStep b objects links s
@@ -140,7 +142,7 @@ module _ (b : List ℕ) (objects links : ℕ) (s : Stores) where
     read-listed = rw (← read-told) (go (eqb (read .told .number) 0) refl)
       where
         expectedCalls : List StoreCall
-        expectedCalls = callsIn (onHistory (needsWith work) (length (s .bytes)) (length (s .words))) (gsubOps b) 0 (begun m)
+        expectedCalls = callsIn (byHistory (needsWith work) (length (s .bytes)) (length (s .words))) (gsubOps b) 0 (begun m)
 
         go : (x : Bool) → eqb (read .told .number) 0 ≡ x → read .stores ≡ leftAfter (pick x expectedCalls []) s₁
         go true e =

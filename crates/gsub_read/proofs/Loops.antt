@@ -10,8 +10,9 @@ use lib.ListN.{length}
 use Rattle.answer.specs.declared.ObjectId.{ObjectId}
 use Rattle.layout.specs.Sound.{sound}
 use Rattle.steps.specs.Runs.{Stores, stores}
+use Rattle.steps.specs.Mirrored.{byStores}
 use Rattle.gsub.specs.declared.Kind.the-variants.{Header}
-use Rattle.gsub.specs.Ops.{begin, perform, onStores}
+use Rattle.gsub.specs.Ops.{begin, perform}
 use Rattle.gsub_walk.specs.declared.walk.Walk.{Walk}
 use Rattle.gsub_walk.specs.declared.walk.Move.{Move}
 use Rattle.gsub_walk.specs.Rest.{restOf, Standing, MovesBy, begunAt}
@@ -24,7 +25,7 @@ use Rattle.gsub_read.proofs.perform.Performed.{the-type}
 use Rattle.gsub_read.proofs.Made.{goes-on, has-ended, all-made, refused-ends}
 
 pub record Walking (b store₀ records₀ : List ℕ) (walk₀ : Walk) (last₀ : ObjectId) (store records : List ℕ) (walk : Walk) (last : ObjectId) : Type 0 where
-  pub same : perform onStores (restOf b walk₀) (last₀ .0) (stores store₀ records₀) ≡ perform onStores (restOf b walk) (last .0) (stores store records)
+  pub same : perform byStores (restOf b walk₀) (last₀ .0) (stores store₀ records₀) ≡ perform byStores (restOf b walk) (last .0) (stores store records)
   pub stays : sound store records ≡ true
   pub stands : Standing walk
   pub bytes-kept : length store ≡ length store₀
@@ -62,12 +63,12 @@ not-on (Refused why) h j e = let z : _≡_ {A = ℕ} 0 1 = cc in omega arith
 module _ (b : List ℕ) {s t : Stores} {q : Performed} (h : PerformedBy (begin ∷ []) 0 s q t) where
   pub not-begun : ((j : ObjectId) → q ≡ On j → ⊥) → RanBy (gsubOps b) 0 s q t
   not-begun n = record {
-    ran = ap (λ ops. perform onStores ops 0 s) (begun-rest b Header 0) ∙ h .made (restOf b (begunAt Header 0)) ∙ refused-ends q (restOf b (begunAt Header 0)) t n;
+    ran = ap (λ ops. perform byStores ops 0 s) (begun-rest b Header 0) ∙ h .made (restOf b (begunAt Header 0)) ∙ refused-ends q (restOf b (begunAt Header 0)) t n;
     stays = h .stays;
   }
 
   pub begun-ran : {j : ObjectId} {w : Walk} {r : Performed} {u : Stores} → q ≡ On j → w ≡ begunAt Header 0 → RanBy (restOf b w) (j .0) t r u → RanBy (gsubOps b) 0 s r u
   begun-ran {j} e f x = record {
-    ran = ap (λ ops. perform onStores ops 0 s) (begun-rest b Header 0) ∙ (rw e at (h .made (restOf b (begunAt Header 0)))) ∙ (rw f at (x .ran));
+    ran = ap (λ ops. perform byStores ops 0 s) (begun-rest b Header 0) ∙ (rw e at (h .made (restOf b (begunAt Header 0)))) ∙ (rw f at (x .ran));
     stays = x .stays;
   }

@@ -8,7 +8,8 @@ use lib.ListN.{length}
 use Rattle.answer.specs.declared.ObjectId.{ObjectId}
 use Rattle.layout.specs.Sound.{sound}
 use Rattle.steps.specs.Runs.{Stores}
-use Rattle.gsub.specs.Ops.{Op, begin, end, fieldsOps, tableOps, perform, onStores}
+use Rattle.steps.specs.Mirrored.{byStores}
+use Rattle.gsub.specs.Ops.{Op, begin, end, fieldsOps, tableOps, perform}
 use Rattle.gsub.specs.Meaning.{deepest}
 use Rattle.gsub_walk.specs.declared.walk.Walk.{Walk}
 use Rattle.gsub_walk.specs.declared.walk.Frame.{Frame}
@@ -93,14 +94,14 @@ unfolding perform
 not-stopped b p i s t j h = omega (arith, ap (λ z. z .number) (h .made []))
 
 pub record GoesOn (b : List ℕ) (w next : Walk) (i : ℕ) (s : Stores) (j : ObjectId) (t : Stores) : Type 0 where
-  pub same : perform onStores (restOf b w) i s ≡ perform onStores (restOf b next) (j .0) t
+  pub same : perform byStores (restOf b w) i s ≡ perform byStores (restOf b next) (j .0) t
   pub stands : Standing next
   pub less : length (restOf b next) < length (restOf b w)
 
 module _ (b : List ℕ) (w next : Walk) (i : ℕ) (s : Stores) (j : ObjectId) (t : Stores) where
   one-less : (m : Move) (o : Op) → opsOf b m ≡ o ∷ [] → restOf b w ≡ o ∷ restOf b next → Standing next → PerformedBy (opsOf b m) i s (On j) t → GoesOn b w next i s j t
   one-less m o f e k h = record {
-    same = ap (λ z. perform onStores z i s) (e ∙ ap (λ z. z ++ restOf b next) (sym f)) ∙ h .made (restOf b next);
+    same = ap (λ z. perform byStores z i s) (e ∙ ap (λ z. z ++ restOf b next) (sym f)) ∙ h .made (restOf b next);
     stands = k;
     less = omega (arith, ap length e);
   }
@@ -124,9 +125,9 @@ pub has-ended : (b : List ℕ) (w next : Walk) (m : Move) (i : ℕ) (s : Stores)
     → RanBy (restOf b w) i s r t
 has-ended b w next m i s r t v h n =
     let k = takes b w next m v in
-    record { ran = ap (λ z. perform onStores z i s) (k .first) ∙ h .made (k .later) ∙ refused-ends r (k .later) t n; stays = h .stays }
+    record { ran = ap (λ z. perform byStores z i s) (k .first) ∙ h .made (k .later) ∙ refused-ends r (k .later) t n; stays = h .stays }
 
 -- nothing is left
 pub all-made : (b : List ℕ) (w : Walk) (j : ObjectId) (s : Stores) → w .depth ≡ 0 → sound (s .bytes) (s .words) ≡ true → RanBy (restOf b w) (j .0) s (On j) s
 unfolding perform
-all-made b w j s e h = record { ran = ap (λ z. perform onStores z (j .0) s) (done-rest b w e); stays = h }
+all-made b w j s e h = record { ran = ap (λ z. perform byStores z (j .0) s) (done-rest b w e); stays = h }

@@ -20,8 +20,9 @@ use Rattle.layout.specs.Sound.{sound}
 use Rattle.steps.specs.Steps.{outcome, closing, openStep, putStep, linkStep, closeStep}
 use Rattle.steps.specs.Runs.{StoreCall, Stores, stores, Left, left, leftBy, leftByClose, stepOn}
 use Rattle.steps.specs.Runs as calls
+use Rattle.steps.specs.Mirrored.{Step, byStores}
 use Rattle.steps.proofs.Steps.{sound-drawn, step-drawn}
-use Rattle.gsub.specs.Ops.{Op, begin, put, link, end, Step, goOn, perform, onStores}
+use Rattle.gsub.specs.Ops.{Op, begin, put, link, end, goOn, perform}
 use Rattle.gsub_read.specs.declared.perform.Performed.{Performed}
 use Rattle.gsub_read.specs.declared.perform.Performed.the-variants.{On, Refused}
 use Rattle.gsub_read.specs.Perform.{afterOf, continued, PerformedBy}
@@ -35,25 +36,25 @@ asStep l = record { number = l .told .number; id = l .told .id; next = l .stores
 
 module _ (s t : Stores) where
   by-answer : (i : ObjectId) (c : StoreCall) (a : Answer) → stepOn c s ≡ record { told = toldBy a; stores = t } → (ops : List Op)
-      → goOn (onStores c s) (perform onStores ops (i .0) (onStores c s .next)) ≡ continued (afterOf a i) ops t
-  by-answer i c a e ops = ap (λ (l : Left). goOn (asStep l) (perform onStores ops (i .0) (l .stores))) e ∙ go a
+      → goOn (byStores c s) (perform byStores ops (i .0) (byStores c s .next)) ≡ continued (afterOf a i) ops t
+  by-answer i c a e ops = ap (λ (l : Left). goOn (asStep l) (perform byStores ops (i .0) (l .stores))) e ∙ go a
     where
-      go : (a : Answer) → goOn (asStep (record { told = toldBy a; stores = t })) (perform onStores ops (i .0) t) ≡ continued (afterOf a i) ops t
+      go : (a : Answer) → goOn (asStep (record { told = toldBy a; stores = t })) (perform byStores ops (i .0) t) ≡ continued (afterOf a i) ops t
       go (Answer.Done k) = refl
       go (Answer.Refused why k) = rw (ne-eqb (number why) 0 (λ q. omega (arith, refused-number why)))
 
   by-closing : (c : StoreCall) (a : Closing) (r : Performed) → stepOn c s ≡ record { told = toldByClose a; stores = t } → ((i : ObjectId) (k : Tally) → a ≡ Closing.Done i k → r ≡ On i)
       → ((why : Refusal) (k : Tally) → a ≡ Closing.Refused why k → r ≡ Refused why) → (ops : List Op)
-      → goOn (onStores c s) (perform onStores ops (onStores c s .id) (onStores c s .next)) ≡ continued r ops t
-  by-closing c a r e d f ops = ap (λ (l : Left). goOn (asStep l) (perform onStores ops (l .told .id) (l .stores))) e ∙ go a d f
+      → goOn (byStores c s) (perform byStores ops (byStores c s .id) (byStores c s .next)) ≡ continued r ops t
+  by-closing c a r e d f ops = ap (λ (l : Left). goOn (asStep l) (perform byStores ops (l .told .id) (l .stores))) e ∙ go a d f
     where
       go : (a : Closing) → ((i : ObjectId) (k : Tally) → a ≡ Closing.Done i k → r ≡ On i) → ((why : Refusal) (k : Tally) → a ≡ Closing.Refused why k → r ≡ Refused why)
-          → goOn (asStep (record { told = toldByClose a; stores = t })) (perform onStores ops (toldByClose a .id) t) ≡ continued r ops t
+          → goOn (asStep (record { told = toldByClose a; stores = t })) (perform byStores ops (toldByClose a .id) t) ≡ continued r ops t
       go (Closing.Done i k) d f = rw (d i k refl)
       go (Closing.Refused why k) d f = rw (f why k refl, ne-eqb (number why) 0 (λ q. omega (arith, refused-number why)))
 
 module _ {b w b' w' : List ℕ} (h : sound b w ≡ true) (i : ObjectId) (a : Answer) {r : Performed} (e : r ≡ afterOf a i) where
-  answered : (o : Op) (c : StoreCall) → ((ops : List Op) → perform onStores (o ∷ ops) (i .0) (stores b w) ≡ goOn (onStores c (stores b w)) (perform onStores ops (i .0) (onStores c (stores b w) .next)))
+  answered : (o : Op) (c : StoreCall) → ((ops : List Op) → perform byStores (o ∷ ops) (i .0) (stores b w) ≡ goOn (byStores c (stores b w)) (perform byStores ops (i .0) (byStores c (stores b w) .next)))
       → stepOn c (stores b w) ≡ left (toldBy a) b' w' → PerformedBy (o ∷ []) (i .0) (stores b w) r (stores b' w')
   answered o c p q = record {
     made = λ ops. p ops ∙ by-answer (stores b w) (stores b' w') i c a q ops ∙ ap (λ (z : Performed). continued z ops (stores b' w')) (sym e);

@@ -11,10 +11,11 @@ use Rattle.layout.specs.Words.{limitsIn}
 use Rattle.layout.specs.Sound.{sound}
 use Rattle.layout.specs.Decode.{decode}
 use Rattle.steps.specs.Runs.{StoreCall, open', put, link, close, Stores, stepOn}
+use Rattle.steps.specs.Mirrored.{Step, byStores}
 use Rattle.steps.proofs.Steps.{sound-drawn, step-drawn}
 use Rattle.steps.proofs.Works.{asks}
 use Rattle.steps.proofs.Surplus.{needOf, Past, past-stands, limits-stay}
-use Rattle.gsub.specs.Ops.{Op, begin, put as putOp, link as linkOp, end, stop, Step, Outcome, outcome as ended, goOn, perform, onStores}
+use Rattle.gsub.specs.Ops.{Op, begin, put as putOp, link as linkOp, end, stop, Outcome, outcome as ended, goOn, perform}
 
 -- ---- what a session begun with limits m keeps, in stores of so many words, the surplus of them as it was
 
@@ -46,11 +47,11 @@ module _ {m : Limits} {words : ℕ} {surplus : List ℕ} where
       go true = l
       go false = k
 
-  pub ops-stay : (ops : List Op) (i : ℕ) (s : Stores) → Begun m words surplus s → Begun m words surplus (perform onStores ops i s .next)
+  pub ops-stay : (ops : List Op) (i : ℕ) (s : Stores) → Begun m words surplus s → Begun m words surplus (perform byStores ops i s .next)
   unfolding perform
   ops-stay [] i s k = k
-  ops-stay (begin ∷ ops) i s k = let l = call-stays open' refl s k in go-stays (onStores open' s) _ l (ops-stay ops i _ l)
-  ops-stay (putOp vs ∷ ops) i s k = let l = call-stays (put vs) refl s k in go-stays (onStores (put vs) s) _ l (ops-stay ops i _ l)
-  ops-stay (linkOp w ∷ ops) i s k = let l = call-stays (link w i 0) refl s k in go-stays (onStores (link w i 0) s) _ l (ops-stay ops i _ l)
-  ops-stay (end ∷ ops) i s k = let l = call-stays close refl s k in go-stays (onStores close s) _ l (ops-stay ops (onStores close s .id) _ l)
+  ops-stay (begin ∷ ops) i s k = let l = call-stays open' refl s k in go-stays (byStores open' s) _ l (ops-stay ops i _ l)
+  ops-stay (putOp vs ∷ ops) i s k = let l = call-stays (put vs) refl s k in go-stays (byStores (put vs) s) _ l (ops-stay ops i _ l)
+  ops-stay (linkOp w ∷ ops) i s k = let l = call-stays (link w i 0) refl s k in go-stays (byStores (link w i 0) s) _ l (ops-stay ops i _ l)
+  ops-stay (end ∷ ops) i s k = let l = call-stays close refl s k in go-stays (byStores close s) _ l (ops-stay ops (byStores close s .id) _ l)
   ops-stay (stop p ∷ ops) i s k = k

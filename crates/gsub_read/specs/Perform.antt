@@ -11,7 +11,8 @@ use Rattle.answer.specs.declared.Answer.{Answer}
 use Rattle.answer.specs.declared.Answer.the-variants as Answer
 use Rattle.layout.specs.Sound.{sound}
 use Rattle.steps.specs.Runs.{Stores}
-use Rattle.gsub.specs.Ops.{badTable, Op, begin, put, link, end, stop, Outcome, outcome, perform, onStores}
+use Rattle.steps.specs.Mirrored.{byStores}
+use Rattle.gsub.specs.Ops.{badTable, Op, begin, put, link, end, stop, Outcome, outcome, perform}
 use Rattle.gsub_walk.specs.declared.walk.Move.{Move}
 use Rattle.gsub_walk.specs.declared.walk.Move.the-variants as Move
 use Rattle.gsub_walk.specs.Fields.{mostWidth}
@@ -30,13 +31,13 @@ outcomeOf (Refused why) s = outcome (number why) 0 0 s
 
 -- with the ops that follow
 abbrev pub continued : Performed → List Op → Stores → Outcome Stores
-continued (On i) ops s = perform onStores ops (i .0) s
+continued (On i) ops s = perform byStores ops (i .0) s
 continued (Bad p) ops s = outcomeOf (Bad p) s
 continued (Refused why) ops s = outcomeOf (Refused why) s
 
 -- some ops, after a close that told i, come to r and leave t of s, whatever follows
 pub record PerformedBy (some : List Op) (i : ℕ) (s : Stores) (r : Performed) (t : Stores) : Type 0 where
-  pub made : (ops : List Op) → perform onStores (some ++ ops) i s ≡ continued r ops t
+  pub made : (ops : List Op) → perform byStores (some ++ ops) i s ≡ continued r ops t
   pub stays : sound (t .bytes) (t .words) ≡ true
 
 -- ---- the moves of a walk through b
@@ -60,5 +61,5 @@ MoveOk b Move.Done = Unit {0}
 
 -- ops that are made to their end, or to the first refusal
 pub record RanBy (ops : List Op) (i : ℕ) (s : Stores) (r : Performed) (t : Stores) : Type 0 where
-  pub ran : perform onStores ops i s ≡ outcomeOf r t
+  pub ran : perform byStores ops i s ≡ outcomeOf r t
   pub stays : sound (t .bytes) (t .words) ≡ true

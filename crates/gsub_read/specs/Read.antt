@@ -16,8 +16,9 @@ use Rattle.model.specs.History.{History, counts, begun}
 use Rattle.steps.specs.Steps.{tallyIn}
 use Rattle.steps.specs.Runs.{StoreCall, Stores, stores, start, stepOn}
 use Rattle.steps.specs.Runs as calls
+use Rattle.steps.specs.Mirrored.{Step, byStores, byHistory}
 use Rattle.gsub.specs.declared.Kind.the-variants.{Header}
-use Rattle.gsub.specs.Ops.{badTable, Op, begin, put, link, end, stop, Step, Outcome, tableOps, perform, onStores, onHistory}
+use Rattle.gsub.specs.Ops.{badTable, Op, begin, put, link, end, stop, Outcome, tableOps, perform}
 use Rattle.gsub.specs.Meaning.{deepest}
 use Rattle.gsub.specs.Refusals.{tellable}
 use Rattle.gsub_read.specs.declared.perform.Performed.{Performed}
@@ -72,7 +73,7 @@ settled objects links o =
 -- from what a start told and left
 abbrev pub begunStep : List ℕ → ℕ → ℕ → ℕ → Stores → ReadLeft
 begunStep b objects links n s =
-    pick (eqb n 0) (settled objects links (perform onStores (gsubOps b) 0 s)) (record { told = refusedRead n 0; stores = s })
+    pick (eqb n 0) (settled objects links (perform byStores (gsubOps b) 0 s)) (record { told = refusedRead n 0; stores = s })
 
 unfoldable pub readStep : List ℕ → ℕ → ℕ → Stores → ReadLeft
 readStep b objects links s = let l = stepOn (start objects links) s in begunStep b objects links (l .told .number) (l .stores)
@@ -105,7 +106,7 @@ module _ (n : Needs) (bytes words : ℕ) (b : List ℕ) (objects links : ℕ) wh
 
   -- what the ops come to on the history that a start begins
   abbrev pub historyRead : Outcome History
-  historyRead = perform (onHistory n bytes words) (gsubOps b) 0 (begun readLimits)
+  historyRead = perform (byHistory n bytes words) (gsubOps b) 0 (begun readLimits)
 
   -- what a read must tell
   unfoldable pub readExpected : ReadTold
@@ -115,13 +116,8 @@ module _ (n : Needs) (bytes words : ℕ) (b : List ℕ) (objects links : ℕ) wh
 
   -- the calls that it stands for: its start and what its ops make, or where it is refused its start alone
   unfoldable pub readCalls : List StoreCall
-  readCalls = start objects links ∷ pick (eqb (readExpected .number) 0) (callsIn (onHistory n bytes words) (gsubOps b) 0 (begun readLimits)) []
+  readCalls = start objects links ∷ pick (eqb (readExpected .number) 0) (callsIn (byHistory n bytes words) (gsubOps b) 0 (begun readLimits)) []
 
 -- the numbers that a read can tell: its start's, and those of its ops
 abbrev pub readTells : ℕ → Bool
 readTells k = eqb k (number Refusal.OutOfRange) || tellable k
-
--- each call gets the stores as the one before left them
-unfoldable pub leftAfter : List StoreCall → Stores → Stores
-leftAfter [] s = s
-leftAfter (c ∷ cs) s = leftAfter cs (stepOn c s .stores)

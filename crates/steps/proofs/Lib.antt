@@ -16,3 +16,4 @@ pub mod Works
 pub mod Surplus
 pub mod Packs
 pub mod Formed
+pub mod Mirrored

@@ -1,3 +1,4 @@
 pub mod Steps
 pub mod Pack
 pub mod Runs
+pub mod Mirrored

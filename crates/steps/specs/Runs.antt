@@ -1,7 +1,7 @@
 -- docs/RULES.md, section 5: the calls with their arguments, on lent memory: what each tells and leaves, and the abstract session that sound stores hold.
 use Prim.Native.Nat.{ℕ}
 use mathlib.Core.Path.{_≡_}
-use mathlib.Core.List.{List, []}
+use mathlib.Core.List.{List, [], _∷_}
 use mathlib.Core.Bool.{true}
 use Rattle.model.specs.Judge.{Limits}
 use Rattle.model.specs.Told.{Told, toldBy, toldByClose, toldByPack}
@@ -52,6 +52,11 @@ stepOn (link width id inner) s = leftBy (linkStep width id inner (s .bytes) (s .
 stepOn close s = leftByClose (closeStep (s .bytes) (s .words))
 stepOn drop s = leftBy (dropStep (s .bytes) (s .words))
 stepOn tally s = leftBy (tallyStep (s .bytes) (s .words))
+
+-- each call gets the stores as the one before left them
+unfoldable pub leftAfter : List StoreCall → Stores → Stores
+leftAfter [] s = s
+leftAfter (c ∷ cs) s = leftAfter cs (stepOn c s .stores)
 
 -- ---- all eight: a pack with its root, the copies allowed, and what the output and the work memory hold
 
