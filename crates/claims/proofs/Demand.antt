@@ -8,19 +8,20 @@ use Rattle.lists.proofs.Whole.{over-front, over-rest}
 use Rattle.model_orders.specs.Reading.{Reading, readings}
 use Rattle.model.specs.Judge.{Verdict, accepted, refused, verdict}
 use Rattle.model.specs.Told.{Told, doneClose}
-use Rattle.model.specs.Session.{Session, SessionCall, closeCall, sessionCall, packCall, PackLeft, step, afterCall}
+use Rattle.model.specs.Session.{SessionCall, closeCall, sessionCall, packCall, PackLeft, step, afterCall}
 use Rattle.model.specs.History.{History, historyOf, innermostReading, idOf, counts, begun, judged, accept, after, afterAll, tell, idTold, expected, AllDifferent, PackAgrees, Alike, Agrees}
 use Rattle.model.proofs.Verdicts.{refused-number}
 use Rattle.model.proofs.Closings.{Known, known-alike, known-closed, known-all}
 use Rattle.model_orders.proofs.Twins.{distinct-id}
-use Rattle.model.proofs.Mirrors.{Mirrors, mirrors-started}
+use Rattle.model.proofs.Mirrors.{mirrors-started}
 use Rattle.model.proofs.Agreement.{call-agrees, call-mirrors}
 use Rattle.work.specs.Areas.{workNeed}
 use Rattle.steps.specs.Steps.{limitsOf}
 use Rattle.steps.specs.Pack.{PackOut}
-use Rattle.steps.specs.Runs.{start, close, tally, Stores, stepOn, LentCall, onStores, pack as packOn, LentLeft, lentStep, leftByPack, asCall, Drawn}
+use Rattle.steps.specs.Runs.{start, close, tally, Stores, stepOn, LentCall, onStores, pack as packOn, LentLeft, lentStep, leftByPack, asCall}
 use Rattle.steps.proofs.Steps.{step-drawn, start-drawn}
 use Rattle.steps.proofs.Runs.{never-unsound}
+use Rattle.steps.proofs.Mirrored.{Holding}
 use Rattle.claims.specs.Demand.{needs, Made, run, PackClaim, Closes, asLent, afterOne, Agree, Claim, KeepsId, AllClaim}
 use Rattle.claims.proofs.Packs.{PackFollows, pack-follows}
 
@@ -45,20 +46,12 @@ pack-claim {h = h} {id = id} {out = out} {o = o} {m = m} s f g = rw (f .told) re
 -- ---- every call
 
 module _ (bytes words : ℕ) where
-  -- the stores, of that many bytes and words, hold a session that mirrors the history
-  record Holding (s : Stores) (h : History) : Type 0 where
-    session : Session
-    drawn : Drawn s session
-    mirrors : Mirrors session h
-    sameBytes : length (s .bytes) ≡ bytes
-    sameWords : length (s .words) ≡ words
-
   record Claimed (c : LentCall) (s : Stores) (h : History) : Type 0 where
     trusted : lentStep c s .told .number ≡ 12 → ⊥
     claim : Claim bytes words c h (lentStep c s)
-    stands : Holding (lentStep c s .stores) (afterOne bytes words c h)
+    stands : Holding bytes words (lentStep c s .stores) (afterOne bytes words c h)
 
-  claimed : (c : LentCall) {s : Stores} {h : History} → Holding s h → Claimed c s h
+  claimed : (c : LentCall) {s : Stores} {h : History} → Holding bytes words s h → Claimed c s h
   unfolding lentStep asLent afterAll Claim Agrees afterCall
   claimed (onStores c) {s = s} k =
       let f = rw (k .sameBytes, k .sameWords) at (step-drawn (λ m copies. workNeed (m .objects) (m .links) copies) c s (k .session) (k .drawn)) in
@@ -83,7 +76,10 @@ module _ (bytes words : ℕ) where
         stands = record { session = k .session; drawn = k .drawn; mirrors = call-mirrors needs (k .mirrors) d; sameBytes = k .sameBytes; sameWords = k .sameWords };
       }
 
-  stands-agree : {s : Stores} {h : History} → Holding s h → Agree bytes words s h
+  pub holding-step : (c : LentCall) {s : Stores} {h : History} → Holding bytes words s h → Holding bytes words (lentStep c s .stores) (afterOne bytes words c h)
+  holding-step c k = claimed c k .stands
+
+  stands-agree : {s : Stores} {h : History} → Holding bytes words s h → Agree bytes words s h
   unfolding lentStep Claim asCall expected judged verdict idTold accept AllDifferent
   stands-agree {s = s} k = record {
     sameBytes = k .sameBytes;
@@ -129,17 +125,21 @@ module _ (bytes words : ℕ) where
 
   -- ---- a list of calls
 
-  all-claim : (cs : List LentCall) {s : Stores} {h : History} → Holding bytes words s h → AllClaim bytes words (run cs s) s h
+  pub all-claim : (cs : List LentCall) {s : Stores} {h : History} → Holding bytes words s h → AllClaim bytes words (run cs s) s h
   unfolding AllClaim run
   all-claim [] k = stands-agree bytes words k
   all-claim (c ∷ cs) {h = h} k =
       let l = claimed bytes words c k in
       (stands-agree bytes words k, l .trusted, l .claim, λ z. keeps-id cs (l .stands) (closed-known h c (l .claim) z), all-claim cs (l .stands))
 
+-- an accepted start leaves stores that hold the history that it begins
+pub holding-start : (objects links : ℕ) (s : Stores) → stepOn (start objects links) s .told .number ≡ 0
+    → Holding (length (s .bytes)) (length (s .words)) (stepOn (start objects links) s .stores) (begun (limitsOf objects links (s .bytes)))
+holding-start objects links s e =
+    let f = start-drawn objects links s e in
+    record { session = _; drawn = f .drawn; mirrors = mirrors-started (limitsOf objects links (s .bytes)); sameBytes = f .sameBytes; sameWords = f .sameWords }
+
 -- from what an accepted start left
 pub demand-3 : (objects links : ℕ) (s : Stores) → stepOn (start objects links) s .told .number ≡ 0 → (cs : List LentCall)
     → let s₁ = stepOn (start objects links) s .stores in AllClaim (length (s .bytes)) (length (s .words)) (run cs s₁) s₁ (begun (limitsOf objects links (s .bytes)))
-demand-3 objects links s e cs =
-    let f = start-drawn objects links s e in
-    all-claim (length (s .bytes)) (length (s .words)) cs
-    (record { session = _; drawn = f .drawn; mirrors = mirrors-started (limitsOf objects links (s .bytes)); sameBytes = f .sameBytes; sameWords = f .sameWords })
+demand-3 objects links s e cs = all-claim (length (s .bytes)) (length (s .words)) cs (holding-start objects links s e)

@@ -19,7 +19,7 @@ pub record SameOutcome (o : Outcome Stores) (p : Outcome History) : Type 0 where
   pub place-same : o .place ≡ p .place
   pub stands : Stands (o .next) (p .next)
 
-go-on : {t : Step Stores} {u : Step History} {o : Outcome Stores} {p : Outcome History} → SameStep t u → SameOutcome o p → SameOutcome (goOn t o) (goOn u p)
+go-on : {t : Step Stores} {u : Step History} {o : Outcome Stores} {p : Outcome History} → SameStep Stands t u → SameOutcome o p → SameOutcome (goOn t o) (goOn u p)
 go-on {t} {u} {o} {p} s l = rw (s .number-same) (go (eqb (u .number) 0))
   where
     go : (x : Bool) → SameOutcome (pick x o (outcome (u .number) 0 0 (t .next))) (pick x p (outcome (u .number) 0 0 (u .next)))

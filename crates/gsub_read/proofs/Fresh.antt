@@ -43,7 +43,7 @@ module _ (objects links : ℕ) where
         go accepted out e = e
         go (refused why) out e = refl
 
-    start-accepted : stepOn (start objects links) s .told .number ≡ 0 → judged ≡ accepted
+    pub start-accepted : stepOn (start objects links) s .told .number ≡ 0 → judged ≡ accepted
     start-accepted z = go judged (sym start-number ∙ z)
       where
         go : (v : Verdict) → numberOf v ≡ 0 → v ≡ accepted

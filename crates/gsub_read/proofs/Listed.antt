@@ -12,18 +12,16 @@ use Rattle.answer.specs.Number.{number}
 use Rattle.answer.specs.declared.tally.Tally.{Tally}
 use Rattle.answer.specs.declared.Refusal.the-variants as Refusal
 use Rattle.model.specs.Judge.{Limits, Tells, none, this, next, startTests}
-use Rattle.model.specs.Session.{Session, tallyOf}
 use Rattle.model.specs.History.{History, counts, begun}
 use Rattle.model.proofs.Refusals.{told-exactly}
-use Rattle.model.proofs.Mirrors.{mirrors-started, mirrors-counts}
+use Rattle.model.proofs.Mirrors.{mirrors-started}
 use Rattle.model.proofs.Closings.{Known}
 use Rattle.layout.specs.Words.{need}
 use Rattle.steps.specs.Steps.{tallyIn, limitsOf}
 use Rattle.steps.specs.Runs.{StoreCall, Stores, start, stepOn, leftAfter, needsWith}
 use Rattle.steps.specs.Mirrored.{byStores, byHistory}
-use Rattle.steps.proofs.Tallies.{tally-decode}
 use Rattle.steps.proofs.Steps.{start-drawn}
-use Rattle.steps.proofs.Mirrored.{Stands}
+use Rattle.steps.proofs.Mirrored.{Stands, mirrored-counts}
 use Rattle.gsub.specs.declared.Kind.the-variants.{Header}
 use Rattle.gsub.specs.Ops.{Outcome, perform}
 use Rattle.gsub.specs.Meaning.{deepest, gsubReading}
@@ -42,7 +40,7 @@ abbrev countsIn : Stores → Tally
 countsIn s = tallyIn (s .bytes) (s .words)
 
 same-counts : {s : Stores} {h : History} → Stands s h → countsIn s ≡ counts h
-same-counts {s} k = tally-decode (s .bytes) (s .words) (k .drawn .isSound) ∙ ap (λ (a : Session). tallyOf a) (k .drawn .holds) ∙ mirrors-counts (k .mirrors)
+same-counts k = mirrored-counts (k .drawn) (k .mirrors)
 
 same-told-of : {o : Outcome Stores} {p : Outcome History} → SameOutcome o p → toldOf countsIn o ≡ toldOf counts p
 same-told-of e = rw (e .number-same, e .id-same, e .place-same, same-counts (e .stands))
