@@ -84,7 +84,7 @@ module _ {w : List ℕ} {s : Span} (objects : ℕ) (e : objects ≡ objectLimit 
   runs-room : Within w s → need objects (s .last) ≤ length w
   runs-room k = omega (arith, k .linkInside, t .head .room)
 
-  has-runs : {b : List ℕ} {lies : Span} {r : Runs} → storeLength w ≡ length b → r ≡ runsOf objects s → Lies w lies s → HasRuns b w (objectIn b w lies) r
+  pub has-runs : {b : List ℕ} {lies : Span} {r : Runs} → storeLength w ≡ length b → r ≡ runsOf objects s → Lies w lies s → HasRuns b w (objectIn b w lies) r
   has-runs {b} size z x =
       let k = x .within in
       let bytes : s .from + (s .to - s .from) ≡ s .to = omega (arith, k .order) in
@@ -118,7 +118,7 @@ module _ {b w : List ℕ} {objects closed : ℕ} {own : Runs} (g : Ground b w ob
   closed-room = runs-room objects (g .objectsIs) (g .tested)
 
 module _ {b w : List ℕ} {o p : Object} {s t : Runs} (x : HasRuns b w o s) (y : HasRuns b w p t) where
-  same-runs : sameObject o p ≡ (sameList eqb (part (s .from) (s .from + s .size) b) (part (t .from) (t .from + t .size) b)
+  pub same-runs : sameObject o p ≡ (sameList eqb (part (s .from) (s .from + s .size) b) (part (t .from) (t .from + t .size) b)
       && sameList eqb (part (s .at) (s .at + s .words) w) (part (t .at) (t .at + t .words) w))
   same-runs =
       rw (x .objectIs, y .objectIs)

@@ -21,7 +21,7 @@ pub struct Runs {
     pub words: usize,
 }
 
-fn runs_of(objects: usize, s: Span) -> Runs
+pub fn runs_of(objects: usize, s: Span) -> Runs
     requires { ⌜ (s .from ≤ s .to) × (s .first ≤ s .last) × (need objects (s .last) < 2 ^ 64) ⌝ }
     ensures { λ r. ⌜ r ≡ runsOf objects s ⌝ }
 {
