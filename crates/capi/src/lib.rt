@@ -1,13 +1,15 @@
-// The eight calls, the read of a GSUB table, frames and the needs for callers in C, as include/scoterlime.h declares them.
+// The eight calls, many of them in one, the read of a GSUB table, frames and the needs for callers in C, as include/scoterlime.h declares them.
 //
 // Each is one proved call and its answer turned into numbers. None asks anything of the lent memory's contents; that a pointer is good for
 // its length, and that lent areas do not overlap, is the caller's part.
+mod batching;
 mod cable;
 mod calls;
 mod needs;
 mod packing;
 mod reading;
 
+pub use batching::scoterlime_batch;
 pub use cable::scoterlime_feed;
 pub use cable::scoterlime_head_need;
 pub use cable::scoterlime_send;
@@ -18,6 +20,7 @@ pub use calls::scoterlime_open;
 pub use calls::scoterlime_put;
 pub use calls::scoterlime_start;
 pub use calls::scoterlime_tally;
+pub use needs::scoterlime_batch_need;
 pub use needs::scoterlime_records_need;
 pub use needs::scoterlime_work_need;
 pub use packing::scoterlime_pack;

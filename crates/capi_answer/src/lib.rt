@@ -1,4 +1,5 @@
-// An answer as twelve numbers, a read's as seven, a send's as two and a feed's as four. Values that a call does not have are 0.
+// An answer as twelve numbers, a read's and a batch's as seven, a send's as two and a feed's as four. Values that a call does not have are 0.
+mod batches;
 mod cable;
 mod reads;
 
@@ -13,6 +14,8 @@ use answer::named_by;
 use answer::no_table;
 use answer::nowhere;
 use answer::number_of;
+pub use batches::BatchNumbers;
+pub use batches::tell_batch;
 pub use cable::FedNumbers;
 pub use cable::SentNumbers;
 pub use cable::tell_fed;
