@@ -1,4 +1,2 @@
-pub mod Demand
 pub mod Again
-pub mod Program
 pub mod Theorems

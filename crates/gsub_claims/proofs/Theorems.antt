@@ -4,7 +4,7 @@
 --   11.6  after a refusal the stores are as freshly started: `refused-fresh`; after 13 as they were: `untouched-13` (Listed)
 --   11.7  what the stores held does not matter: `same-told`; 12 is never told: `never-12` (Listed)
 --   11.8  what is told is the history's: `read-told`; what is left is what the calls that it stands for leave: `read-listed` (Listed); lists with reads in
---         them: `demand-3-reads`, in C `demand-3-reads-c` (Program)
+--         them: `demand-3-any`, in C `demand-3-any-c` (claims_lists Program)
 --   11.9  the root reads as the table: `root-reads` (Again)
 --   11.10 what the slice substitutes is what the reading does: `substitute-read` (gsub Substitutes)
 --   11.11 packed and read again: `packed-again` (Again)

@@ -1,1 +1,1 @@
-// The claims about reads: in lists of calls, and of a table that is read, packed and read again.
+// The claims about reads: what a read tells and leaves, and a table that is read, packed and read again.

@@ -1,0 +1,95 @@
+-- docs/RULES.md, section 8, 11.8 and 14.6: lists of all calls, in which a read and a batch stand for several of the eight.
+use Prim.Native.Nat.{ℕ}
+use mathlib.Core.Path.{_≡_}
+use mathlib.Core.List.{List, [], _∷_, _++_, map}
+use lib.ListN.{length}
+use Rattle.lists.specs.Lists.{over}
+use Rattle.model.specs.History.{History, begun}
+use Rattle.steps.specs.Steps.{limitsOf}
+use Rattle.steps.specs.Runs.{start, Stores, LentCall, onStores}
+use Rattle.claims.specs.Demand.{needs, Made, run, storesAfter, historyAfter, AllClaim}
+use Rattle.gsub_read.specs.Read.{ReadLeft, readExpected, readCalls}
+use Rattle.session_batch.specs.Batch.{Batch, BatchLeft, batchExpected, batchIds, batchCalls}
+
+-- a read with its arguments, and what it told and left
+pub record MadeRead : Type 0 where
+  pub table : List ℕ
+  pub objects : ℕ
+  pub links : ℕ
+  pub left : ReadLeft
+
+-- a batch with its calls and bytes, the ids and the work memory that it was lent, and what it told and left
+pub record MadeBatch : Type 0 where
+  pub calls : List ℕ
+  pub bytes : List ℕ
+  pub ids : List ℕ
+  pub work : List ℕ
+  pub left : BatchLeft
+
+-- one of the eight calls, a read or a batch
+pub data AnyMade : Type 0 where
+  call : Made → AnyMade
+  read : MadeRead → AnyMade
+  batch : MadeBatch → AnyMade
+
+-- the stores that it left
+abbrev pub leftBy : AnyMade → Stores
+leftBy (call m) = m .left .stores
+leftBy (read r) = r .left .stores
+leftBy (batch b) = b .left .stores
+
+-- each gets the stores as the one before left them; `made` says which there are on given stores
+pub data RanAny (made : Stores → AnyMade → Type 0) : Stores → List AnyMade → Type 0 where
+  none : {s : Stores} → RanAny made s []
+  more : {s : Stores} {x : AnyMade} {xs : List AnyMade} → made s x → RanAny made (leftBy x) xs → RanAny made s (x ∷ xs)
+
+-- what of a batch the history is fed
+abbrev pub argumentsOf : MadeBatch → Batch
+argumentsOf b = record { calls = b .calls; bytes = b .bytes; room = length (b .ids); work = length (b .work) }
+
+module _ (bytes words : ℕ) where
+  -- the calls that it stands for, by its arguments, the stores' lengths and the history before it
+  abbrev pub standsFor : History → AnyMade → List LentCall
+  standsFor h (call m) = m .call ∷ []
+  standsFor h (read r) = map onStores (readCalls needs bytes words (r .table) (r .objects) (r .links))
+  standsFor h (batch b) = map onStores (batchCalls needs bytes words (argumentsOf b) h)
+
+  -- these with what each left: of one of the eight, what it did leave
+  abbrev pub madeBy : History → AnyMade → Stores → List Made
+  madeBy h (call m) s = m ∷ []
+  madeBy h (read r) s = run (standsFor h (read r)) s
+  madeBy h (batch b) s = run (standsFor h (batch b)) s
+
+  -- a list as one of the eight calls
+  unfoldable pub asCalls : List AnyMade → Stores → History → List Made
+  asCalls [] s h = []
+  asCalls (x ∷ xs) s h = let ms = madeBy h x s in ms ++ asCalls xs (storesAfter ms s) (historyAfter bytes words ms h)
+
+  -- a read and a batch tell what the history says, and leave the stores as the calls that they stand for leave them
+  unfoldable pub Right : AnyMade → Stores → History → Type 0
+  Right (call m) s h = Unit {0}
+  Right (read r) s h = (r .left .told ≡ readExpected needs bytes words (r .table) (r .objects) (r .links)) × (r .left .stores ≡ storesAfter (madeBy h (read r) s) s)
+  Right (batch b) s h =
+      (b .left .told ≡ batchExpected needs bytes words (argumentsOf b) h)
+      × (b .left .ids ≡ over 0 (batchIds needs bytes words (argumentsOf b) h) (b .ids))
+      × (b .left .stores ≡ storesAfter (madeBy h (batch b) s) s)
+
+  unfoldable pub AllRight : List AnyMade → Stores → History → Type 0
+  AllRight [] s h = Unit {0}
+  AllRight (x ∷ xs) s h = Right x s h × AllRight xs (leftBy x) (historyAfter bytes words (madeBy h x s) h)
+
+-- a batch starts no session
+abbrev pub MayBegin : AnyMade → Type 0
+MayBegin (call m) = Unit {0}
+MayBegin (read r) = Unit {0}
+MayBegin (batch b) = ⊥
+
+-- every list that begins with an accepted start, a read's own included, whatever was held before: as a list of the eight calls it is as the history
+-- says, and so is each read and each batch
+abbrev pub EveryAnyList : (Stores → AnyMade → Type 0) → Type 0
+EveryAnyList made =
+    (objects links : ℕ) (s : Stores) (before : History) (x : AnyMade) (xs : List AnyMade) (first : Made) (rest : List Made) → RanAny made s (x ∷ xs) → MayBegin x
+    → let bytes = length (s .bytes) in
+    let words = length (s .words) in
+    asCalls bytes words (x ∷ xs) s before ≡ first ∷ rest → first .call ≡ onStores (start objects links) → first .left .told .number ≡ 0
+    → AllClaim bytes words rest (first .left .stores) (begun (limitsOf objects links (s .bytes))) × AllRight bytes words (x ∷ xs) s before

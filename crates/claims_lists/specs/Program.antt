@@ -1,0 +1,66 @@
+-- docs/RULES.md, 8.1, 11.8 and 14.6: one of the eight calls, a read or a batch by its public function, and by its C function, of which only the contract is known.
+use denote.Ref.{now}
+use Rattle.steps.specs.Runs.{Stores, stores}
+use Rattle.claims.specs.Demand.{Made}
+use Rattle.claims_program.specs.Chain.{Returned}
+use Rattle.claims_program.specs.Program.{Called}
+use Rattle.claims_program.specs.FromC.{CalledC}
+use Rattle.capi_answer.specs.Numbers.{toldInRead}
+use Rattle.capi_answer.specs.Batch.{toldInBatch}
+use Rattle.gsub_read.specs.Read.{toldByRead, readLeft}
+use Rattle.session_batch.specs.Batch.{batchLeft}
+use Rattle.batch.specs.Batch.{toldByBatch}
+use Rattle.gsub_read.proofs.read_gsub.Kinds as read-kinds
+use Rattle.gsub_read.proofs.read_gsub.Reads as read-reads
+use Rattle.batch.proofs.batch.Kinds as batch-kinds
+use Rattle.batch.proofs.batch.Reads as batch-reads
+use Rattle.capi.proofs.scoterlime_read_gsub.Kinds as c-read-kinds
+use Rattle.capi.proofs.scoterlime_read_gsub.Reads as c-read-reads
+use Rattle.capi.proofs.scoterlime_batch.Kinds as c-batch-kinds
+use Rattle.capi.proofs.scoterlime_batch.Reads as c-batch-reads
+use Rattle.claims_lists.specs.Lists.{AnyMade, call, read, batch}
+
+-- on these stores
+pub data MadeOn : Stores → AnyMade → Type 0 where
+  by-call : {s : Stores} {m : Made} → Called s m → MadeOn s (call m)
+  by-read : (f : Returned 3 read-kinds.ps read-kinds.r read-reads.Post)
+      → MadeOn (stores (now (f .args .0)) (now (f .args .1 .0)))
+      (read
+      (record {
+        table = now (f .args .1 .1 .1 .1 .0);
+        objects = f .args .1 .1 .0;
+        links = f .args .1 .1 .1 .0;
+        left = readLeft (toldByRead (f .result)) (now (f .exit .0)) (now (f .exit .1 .0));
+      }))
+  by-batch : (f : Returned 6 batch-kinds.ps batch-kinds.r batch-reads.Post)
+      → MadeOn (stores (now (f .args .0)) (now (f .args .1 .0)))
+      (batch
+      (record {
+        calls = now (f .args .1 .1 .0);
+        bytes = now (f .args .1 .1 .1 .0);
+        ids = now (f .args .1 .1 .1 .1 .0);
+        work = now (f .args .1 .1 .1 .1 .1 .0);
+        left = batchLeft (toldByBatch (f .result)) (now (f .exit .0)) (now (f .exit .1 .0)) (now (f .exit .1 .1 .1 .1 .0)) (now (f .exit .1 .1 .1 .1 .1 .0));
+      }))
+
+pub data MadeOnC : Stores → AnyMade → Type 0 where
+  c-call : {s : Stores} {m : Made} → CalledC s m → MadeOnC s (call m)
+  c-read : (f : Returned 3 c-read-kinds.ps c-read-kinds.r c-read-reads.Post)
+      → MadeOnC (stores (now (f .args .0)) (now (f .args .1 .0)))
+      (read
+      (record {
+        table = now (f .args .1 .1 .1 .1 .0);
+        objects = f .args .1 .1 .0;
+        links = f .args .1 .1 .1 .0;
+        left = readLeft (toldInRead (f .result)) (now (f .exit .0)) (now (f .exit .1 .0));
+      }))
+  c-batch : (f : Returned 6 c-batch-kinds.ps c-batch-kinds.r c-batch-reads.Post)
+      → MadeOnC (stores (now (f .args .0)) (now (f .args .1 .0)))
+      (batch
+      (record {
+        calls = now (f .args .1 .1 .0);
+        bytes = now (f .args .1 .1 .1 .0);
+        ids = now (f .args .1 .1 .1 .1 .0);
+        work = now (f .args .1 .1 .1 .1 .1 .0);
+        left = batchLeft (toldInBatch (f .result)) (now (f .exit .0)) (now (f .exit .1 .0)) (now (f .exit .1 .1 .1 .1 .0)) (now (f .exit .1 .1 .1 .1 .1 .0));
+      }))
