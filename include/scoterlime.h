@@ -4,8 +4,8 @@
  * other state: two sessions in different areas know nothing of each other.
  *
  * The caller's duties, in every call:
- * - a pointer is good for its length: n bytes at store, r words of 32 bits at records, k bytes at bytes, o bytes at out, w words of 64 bits
- *   at work, t bytes at table or at text, h bytes at head, each readable, and writable where it is not const, and aligned for its type. A pointer with a length of 0 may not be null
+ * - a pointer is good for its length: n bytes at store, r words of 32 bits at records, k or b bytes at bytes, o bytes at out, w words of 64 bits
+ *   at work, c words of 32 bits at calls and i at ids, t bytes at table or at text, h bytes at head, each readable, and writable where it is not const, and aligned for its type. A pointer with a length of 0 may not be null
  *   either: give any aligned address;
  * - the areas lent to one call do not overlap;
  * - no other thread reads or writes them during the call (areas that a call only reads may be read by others).
@@ -13,8 +13,8 @@
  * What the areas hold is no duty: on any contents and in any order, every call ends and answers. A session goes on as long as each call gets both
  * stores as the call before left them, with the same n and an r no shorter than the need. Stores that hold no sound session are told 12.
  *
- * A refused call changes nothing, with two exceptions: pack's 10 and 11 clear the needed part of the work memory, and a refused read leaves a session that
- * is freshly started. Where several reasons apply, the first in the call's list of refusals is told.
+ * A refused call changes nothing, with three exceptions: pack's 10 and 11 clear the needed part of the work memory, a refused read leaves a session that
+ * is freshly started, and of a batch the calls before the one that ends it stand. Where several reasons apply, the first in the call's list of refusals is told.
  */
 #ifndef SCOTERLIME_H
 #define SCOTERLIME_H
@@ -127,6 +127,42 @@ typedef struct {
  * Refused: 13 as start, which changes nothing; then the first of 15, 6, 7, 8 and 16 that is met, which leaves the session as freshly started. */
 scoterlime_read_answer scoterlime_read_gsub(uint8_t *store, size_t n, uint32_t *records, size_t r, uint32_t piece_limit, uint32_t link_limit,
                                             const uint8_t *table, size_t t);
+
+/* What a batch tells. number is 0, 12 or 13 as above, or why the batch ended before its last word: 1 to 8 and 16 as above, of the call that was refused, or
+ *
+ *   19  the next words are no call
+ *
+ * Beside 12 and 13 each other value is 0. Beside the others stand the counts after the last call that was carried out. */
+typedef struct {
+    uint64_t number;
+    uint64_t bytes;
+    uint64_t links;
+    uint64_t objects;
+    uint64_t depth;
+    uint64_t calls; /* how many calls were carried out: the refused one, or what is no call, is the next */
+    uint64_t ids;   /* how many words at ids were written */
+} scoterlime_batch_answer;
+
+/* How many words of 64 bits a batch of a session with these limits needs at work: 4 for each object. More is allowed; the surplus is never touched. */
+uint64_t scoterlime_batch_need(uint32_t piece_limit, uint32_t link_limit);
+
+/* Carries out many calls in turn. Each is as the single call would be, and so are the stores afterwards, but soundness is tested once, and an equal closed object is
+ * found without looking at all of them. The calls are words, one behind the other:
+ *
+ *   1                    open
+ *   2, k                 put of the next k of the b bytes
+ *   3, width, id, inner  link to the closed object id
+ *   4, width, j, inner   link to the object whose id the close j of this batch told, counted from 0
+ *   5                    close: its id is the next word at ids
+ *   6                    drop
+ *
+ * The ids that the closes told stand at the front of ids; the other words there stand. What work held does not matter; its needed words are 0 afterwards, but beside 12
+ * and 13.
+ * Refused: 12, 13 (w is short of the need), which change nothing; then the first call that is refused or is none, which changes nothing either and ends the batch: those
+ * before it stand. Words are no call (19) where the first is none of these, some are missing, fewer than k bytes are left, close j is not among those carried out, or ids has
+ * no word left for a close. */
+scoterlime_batch_answer scoterlime_batch(uint8_t *store, size_t n, uint32_t *records, size_t r, const uint32_t *calls, size_t c, const uint8_t *bytes, size_t b,
+                                         uint32_t *ids, size_t i, uint64_t *work, size_t w);
 
 /* What a send tells. length is 0 beside a refusal. */
 typedef struct {

@@ -4,9 +4,11 @@
 //!
 //! `cargo run --offline --profile bench --package bench`
 
+mod batching;
 mod closing;
 mod copying;
 mod framing;
+mod growth;
 mod largest;
 mod looking;
 mod ordering;
@@ -32,6 +34,7 @@ fn main() {
         copying::asked,
         reading::asked,
         framing::asked,
+        batching::asked,
     ];
     if parts.iter().any(|asked| asked()) {
         return;
@@ -68,6 +71,7 @@ fn main() {
     copying::print();
     reading::print();
     framing::print();
+    batching::print();
 }
 
 /// Speeds in gigabytes a second, of what is looked at and of what is summed.

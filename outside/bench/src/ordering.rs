@@ -6,6 +6,7 @@
 //! seconds, for a profiler to look at; with `plain` as a third word the plain packer
 //! does.
 
+use crate::growth::{print_head, print_line, Line, Times};
 use crate::timing::microseconds;
 use bindings::calls;
 use compare::decided::{self, Order, ORDERS};
@@ -53,15 +54,6 @@ const SHAPES: [Shape; 6] = [
     shape("lattice", Family::Lattice, 4),
 ];
 
-/// Microseconds of the proved library and of the plain packer.
-type Times = [f64; 2];
-
-/// Times by the number of objects.
-struct Line {
-    what: String,
-    times: [Times; 2],
-}
-
 /// Prints the lines alone, or packs one shape's graphs again and again, if the words
 /// ask for it.
 pub fn asked() -> bool {
@@ -90,27 +82,13 @@ pub fn asked() -> bool {
 }
 
 pub fn print() {
-    println!(
-        "\n{:<46}{:>32}{:>32}{:>16}",
-        "packs beside plain Rust", "4,000 objects", "16,000 objects", "growth"
+    print_head(
+        "packs beside plain Rust",
+        ["4,000 objects", "16,000 objects"],
     );
-    print!("{:<46}", "");
-    for _ in COUNTS {
-        print!("{:>12}{:>12}{:>8}", "proved µs", "plain Rust", "ratio");
-    }
-    println!("{:>8}{:>8}", "proved", "plain");
     for shape in &SHAPES {
         lines(shape).iter().for_each(print_line);
     }
-}
-
-fn print_line(line: &Line) {
-    print!("{:<46}", line.what);
-    for [proved, plain] in line.times {
-        print!("{proved:>12.1}{plain:>12.1}{:>8.2}", proved / plain);
-    }
-    let [small, large] = line.times;
-    println!("{:>8.1}{:>8.1}", large[0] / small[0], large[1] / small[1]);
 }
 
 /// Whole packs, and the differences from one order to the next.

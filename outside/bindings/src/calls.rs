@@ -4,7 +4,7 @@
 //! slices overlap nothing else that is lent.
 
 use crate::foreign;
-use crate::{Answer, Fed, GsubRead, Sent};
+use crate::{Answer, Batched, Fed, GsubRead, Sent};
 
 /// Words of 32 bits that the record store needs.
 pub fn records_need(piece_limit: u32, link_limit: u32) -> usize {
@@ -81,6 +81,28 @@ pub fn read_gsub(
     let (store, records, table) = (store.as_mut_ptr(), records.as_mut_ptr(), table.as_ptr());
     let (p, l) = (piece_limit, link_limit);
     unsafe { foreign::scoterlime_read_gsub(store, n, records, r, p, l, table, t) }
+}
+
+/// Words of 64 bits that the work memory needs of a batch.
+pub fn batch_need(piece_limit: u32, link_limit: u32) -> usize {
+    unsafe { foreign::scoterlime_batch_need(piece_limit, link_limit) as usize }
+}
+
+/// Carries out many calls, given as words. [`crate::Batch`] writes them.
+pub fn batch(
+    store: &mut [u8],
+    records: &mut [u32],
+    calls: &[u32],
+    bytes: &[u8],
+    ids: &mut [u32],
+    work: &mut [u64],
+) -> Batched {
+    let (n, r, c, b) = (store.len(), records.len(), calls.len(), bytes.len());
+    let (i, w) = (ids.len(), work.len());
+    let (store, records) = (store.as_mut_ptr(), records.as_mut_ptr());
+    let (calls, bytes) = (calls.as_ptr(), bytes.as_ptr());
+    let (ids, work) = (ids.as_mut_ptr(), work.as_mut_ptr());
+    unsafe { foreign::scoterlime_batch(store, n, records, r, calls, c, bytes, b, ids, i, work, w) }
 }
 
 /// Bytes that a head needs.

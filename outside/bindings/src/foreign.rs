@@ -1,6 +1,6 @@
 //! The declarations of include/scoterlime.h.
 
-use crate::{Answer, Fed, GsubRead, Sent};
+use crate::{Answer, Batched, Fed, GsubRead, Sent};
 
 extern "C" {
     pub fn scoterlime_records_need(piece_limit: u32, link_limit: u32) -> u64;
@@ -56,6 +56,21 @@ extern "C" {
         table: *const u8,
         t: usize,
     ) -> GsubRead;
+    pub fn scoterlime_batch_need(piece_limit: u32, link_limit: u32) -> u64;
+    pub fn scoterlime_batch(
+        store: *mut u8,
+        n: usize,
+        records: *mut u32,
+        r: usize,
+        calls: *const u32,
+        c: usize,
+        bytes: *const u8,
+        b: usize,
+        ids: *mut u32,
+        i: usize,
+        work: *mut u64,
+        w: usize,
+    ) -> Batched;
     pub fn scoterlime_head_need() -> u64;
     pub fn scoterlime_send(table: *const u8, t: usize, out: *mut u8, o: usize) -> Sent;
     pub fn scoterlime_feed(

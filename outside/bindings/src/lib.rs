@@ -1,7 +1,8 @@
 //! The proved packer for Rust.
 //!
 //! [`calls`] has the eight calls on any two lent stores, the read of a whole GSUB
-//! table, and a table sent as frames of text and taken in again. [`Session`] keeps both stores borrowed from its start on, so that
+//! table, many calls in one, and a table sent as frames of text and taken in again.
+//! [`Batch`] collects calls. [`Session`] keeps both stores borrowed from its start on, so that
 //! nothing else writes them between calls. What include/scoterlime.h asks of
 //! callers holds by Rust's slices: pointers good for their lengths, never null,
 //! and no two areas that overlap:
@@ -11,12 +12,14 @@
 //! bindings::calls::put(&mut store, &mut records, &store[..1]);
 //! ```
 
+mod batch;
 pub mod calls;
 mod foreign;
 mod session;
 
-pub use calls::{head_need, records_need, work_need};
-pub use session::{NotRead, Packed, Refused, Session};
+pub use batch::Batch;
+pub use calls::{batch_need, head_need, records_need, work_need};
+pub use session::{NotRead, Packed, Refused, Session, Unfinished};
 
 /// What a call tells: the struct of include/scoterlime.h. Values that a call
 /// does not have are 0.
@@ -51,6 +54,21 @@ pub struct GsubRead {
     pub id: u64,
     /// Where in the table a field is that cannot be read.
     pub place: u64,
+}
+
+/// What a batch tells: its struct of include/scoterlime.h.
+#[repr(C)]
+#[derive(Clone, Copy, Debug, Default, PartialEq, Eq)]
+pub struct Batched {
+    pub number: u64,
+    pub bytes: u64,
+    pub links: u64,
+    pub objects: u64,
+    pub depth: u64,
+    /// How many calls were carried out.
+    pub calls: u64,
+    /// How many ids were written.
+    pub ids: u64,
 }
 
 /// What a send tells: its struct of include/scoterlime.h.

@@ -1,6 +1,6 @@
 //! A session that keeps its two stores borrowed.
 
-use crate::{calls, Answer, GsubRead};
+use crate::{calls, Answer, Batched, GsubRead};
 
 /// A refused call: its number, and what stands beside it.
 #[derive(Clone, Copy, Debug, PartialEq, Eq)]
@@ -17,6 +17,14 @@ pub struct Packed<'o> {
     pub table: &'o [u8],
     pub copies: u32,
     pub placed: u32,
+}
+
+/// A batch that ended before its last word: the number and what stands beside it,
+/// how many of its calls stand among that, and the ids that its closes told.
+#[derive(Clone, Copy, Debug, PartialEq, Eq)]
+pub struct Unfinished<'i> {
+    pub told: Batched,
+    pub ids: &'i [u32],
 }
 
 fn told(answer: Answer) -> Result<Answer, Refused> {
@@ -81,6 +89,23 @@ impl<'a> Session<'a> {
 
     pub fn drop_object(&mut self) -> Result<Answer, Refused> {
         told(calls::drop(self.store, self.records))
+    }
+
+    /// Carries out many calls, given as words, and gives the ids that the closes
+    /// told, which are the front of `ids`. Calls before one that is refused stand.
+    pub fn batch<'i>(
+        &mut self,
+        calls: &[u32],
+        bytes: &[u8],
+        ids: &'i mut [u32],
+        work: &mut [u64],
+    ) -> Result<&'i [u32], Unfinished<'i>> {
+        let told = calls::batch(self.store, self.records, calls, bytes, ids, work);
+        let ids = &ids[..told.ids as usize];
+        match told.number {
+            0 => Ok(ids),
+            _ => Err(Unfinished { told, ids }),
+        }
     }
 
     pub fn tally(&self) -> Result<Answer, Refused> {

@@ -9,9 +9,11 @@
 //!   leave, [`by_id`] orders that differ between these.
 //! * [`tables`] and [`crafted`] make GSUB tables of [`parts`], [`real`] has those of fonts, [`spoilt`]
 //!   damages them, [`reads`] reads them.
+//! * [`batches`] has calls as words, [`no_call`] words that are none.
 //! * [`jobs`] has jobs as texts, [`program`] the proved program that runs them, [`frames`] texts of
 //!   frames.
 
+pub mod batches;
 pub mod by_id;
 pub mod checked;
 pub mod claims;
@@ -25,6 +27,7 @@ pub mod largest;
 pub mod lists;
 pub mod made;
 pub mod met;
+pub mod no_call;
 pub mod pair;
 pub mod parts;
 pub mod program;

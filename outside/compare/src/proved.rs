@@ -2,6 +2,7 @@
 
 use crate::fenced::Fenced;
 use bindings::calls;
+use reference::batch::Batched;
 use reference::call::{Call, Stores};
 use reference::gsub::GsubRead;
 use reference::Answer;
@@ -47,6 +48,26 @@ impl Proved {
             depth: told.depth,
             id: told.id,
             place: told.place,
+        }
+    }
+
+    pub fn batch(
+        &mut self,
+        words: &[u32],
+        added: &[u8],
+        ids: &mut [u32],
+        work: &mut [u64],
+    ) -> Batched {
+        let (bytes, records) = (self.bytes.inside_mut(), self.records.inside_mut());
+        let told = calls::batch(bytes, records, words, added, ids, work);
+        Batched {
+            number: told.number,
+            bytes: told.bytes,
+            links: told.links,
+            objects: told.objects,
+            depth: told.depth,
+            calls: told.calls,
+            ids: told.ids,
         }
     }
 

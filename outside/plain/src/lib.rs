@@ -1,9 +1,11 @@
 //! An ordinary packer in Rust, by which the proved library's speed is measured:
 //! the same stores and the same tables, with the standard library's queue and
-//! heap and memory of its own. [`frames`] sends and takes in tables.
+//! heap and memory of its own. [`build`] writes objects, [`frames`] sends and takes
+//! in tables.
 
 #![forbid(unsafe_code)]
 
+pub mod build;
 mod copies;
 pub mod frames;
 mod graph;

@@ -49,6 +49,8 @@ pub const HOPELESS: u64 = 16;
 /// text in which no stretch ended.
 pub const NOT_AWAITED: u64 = 17;
 pub const UNDER_WAY: u64 = 18;
+/// Of a batch alone.
+pub const NO_CALL: u64 = 19;
 
 /// One more than the greatest number of a call: the length of a count by numbers.
 pub const NUMBERS: usize = 17;

@@ -155,6 +155,11 @@ impl History {
         self.tell(0)
     }
 
+    /// Words of work memory that a batch needs now.
+    pub fn batch_need(&self) -> usize {
+        4 * self.piece_limit
+    }
+
     /// The reading that an id stands for now.
     pub fn reading(&self, id: u32) -> Option<&Rc<Reading>> {
         self.closed.get(id as usize)

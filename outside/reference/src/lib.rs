@@ -8,12 +8,14 @@
 //! * [`history`] says what the calls must tell, from their arguments alone.
 //! * [`reader`] checks that a packed table shows a reading.
 //! * [`gsub`] reads a whole GSUB table into a session.
+//! * [`batch`] carries out many calls that are given as words.
 //! * [`job`] runs a session and a pack that are written as lines of text.
 //! * [`frames`] sends a table as lines of text, and takes them in again.
 
 #![forbid(unsafe_code)]
 
 pub mod answer;
+pub mod batch;
 pub mod call;
 pub mod cases;
 pub mod copies;

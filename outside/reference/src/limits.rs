@@ -39,3 +39,8 @@ pub fn work_need(pieces: u64, links: u64, copies: u64) -> u64 {
     let (nodes, links) = (pieces + copies, links * (copies + 1));
     11 * nodes + 2 * links + copies
 }
+
+/// Words of a batch's work memory for the limits: four for each piece.
+pub fn batch_need(pieces: u64) -> u64 {
+    4 * pieces
+}

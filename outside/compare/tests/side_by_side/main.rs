@@ -2,6 +2,7 @@
 //! processors.
 
 mod apart;
+mod batches;
 mod calls;
 mod cases;
 mod copies;

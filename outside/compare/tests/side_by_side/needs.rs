@@ -35,6 +35,9 @@ fn needs_are_as_documented() {
         assert!(records <= 4_096 + 64 * (pieces + links));
         let work = bindings::work_need(p, l, k) as u64;
         assert_eq!(work, limits::work_need(pieces, links, copies));
+        let batch = bindings::batch_need(p, l) as u64;
+        assert_eq!(batch, limits::batch_need(pieces));
+        assert!(batch <= 4_096 + 64 * (pieces + links));
         let allowed = copies.min(1_024);
         assert!(work <= 4_096 + 64 * (pieces + links) + 64 * allowed * (links + 1));
     }
