@@ -1,11 +1,12 @@
 -- The hash by what is left to mix, of an object as runs of the stores, and of equal objects.
 use mathlib.Core.Path.{_≡_, refl, sym, ap, ap₂, _∙_}
-use Prim.Native.Nat.{ℕ, _+_, _-_, _*_, _≤_, _<_}
+use Prim.Native.Nat.{ℕ, suc, _+_, _-_, _*_, _/_, _%_, _^_, _≤_, _<_}
 use mathlib.Core.List.{List, [], _∷_}
 use mathlib.Core.Bool.{true, _&&_}
 use native.Mathlib.Omega.{arith}
 use borrow.Author.Tests.{eqb-true}
 use lib.ListN.{length, drop, getD, length-drop, drop-of-length-le}
+use lib.Seq.{drop-drop, getD-drop}
 use lib.Dec.{eqb}
 use Rattle.lists.specs.Lists.{part, sameList}
 use Rattle.lists.proofs.Runs.{drop-first}
@@ -15,7 +16,7 @@ use Rattle.model_orders.specs.Object.{Slot, Link, Object, sameSlot, sameLink, s
 use Rattle.layout.specs.Words.{linkWords, linksOf}
 use Rattle.session_find.specs.declared.Runs.{Runs}
 use Rattle.session_find.specs.Runs.{HasRuns}
-use Rattle.session_hash.specs.Hash.{mix, mixed, four, gathered, wordsOfAll, hashBy, hashOf}
+use Rattle.session_hash.specs.Hash.{mix, mixed, four, gathered, fourAt, twoWords, twined, hashBytes, wordsOfAll, hashBy, hashOf}
 
 -- ---- what is left to mix
 
@@ -49,6 +50,30 @@ module _ (h i : ℕ) (s : List ℕ) where
   -- fewer than four are left
   pub fours-none : length s - i < 4 → mixed h (gathered (drop i s)) ≡ mixed h (drop i s)
   fours-none k = ap (mixed h) (gathered-short (drop i s) (rw (length-drop i s) k))
+
+  -- ---- two words at a time
+
+  -- in what is left as in the whole
+  fours : (k j : ℕ) → i + k ≡ j → fourAt k (drop i s) ≡ fourAt j s
+  fours k j e =
+      let at : (x : ℕ) → getD (drop i s) (k + x) 0 ≡ getD s (j + x) 0 = λ x. getD-drop i s (k + x) 0 ∙ ap (λ y. getD s y 0) (omega (arith, e)) in
+      rw (at 1, at 2, at 3, getD-drop i s k 0 ∙ ap (λ y. getD s y 0) e)
+
+  module _ (g : ℕ) where
+    pub twined-next : i + 7 < length s
+        → twined ((length s - i) / twoWords) h g (drop i s) ≡ twined ((length s - (i + twoWords)) / twoWords) (mix h (fourAt i s)) (mix g (fourAt (i + 4) s)) (drop (i + twoWords) s)
+    unfolding twined
+    twined-next k =
+        let n : (length s - i) / twoWords ≡ suc ((length s - (i + twoWords)) / twoWords) = omega arith in
+        rw n (ap₂ (λ x y. twined ((length s - (i + twoWords)) / twoWords) (mix h x) (mix g y) (drop twoWords (drop i s))) (fours 0 i (omega arith)) (fours 4 (i + 4) refl) ∙ ap (twined ((length s - (i + twoWords)) / twoWords) (mix h (fourAt i s)) (mix g (fourAt (i + 4) s))) (drop-drop twoWords i s))
+
+    -- fewer are left
+    pub twined-none : length s - i < twoWords → twined ((length s - i) / twoWords) h g (drop i s) ≡ mixed (mix h (g % 2 ^ 32)) (gathered (drop i s))
+    unfolding twined
+    twined-none k = let n : (length s - i) / twoWords ≡ 0 = omega arith in rw n
+
+pub twined-first : (s : List ℕ) → hashBytes s ≡ twined ((length s - 0) / twoWords) 1 1 (drop 0 s)
+twined-first s = let n : length s - 0 ≡ length s = omega arith in rw n
 
 -- ---- an object as runs of the stores
 

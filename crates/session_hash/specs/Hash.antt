@@ -1,6 +1,7 @@
 -- docs/RULES.md, 2.5: a number for an object's contents, by which most objects that differ are told apart. Equal objects have equal numbers; that is all that is asked of it.
-use Prim.Native.Nat.{ℕ, _+_, _*_, _/_, _%_, _^_}
+use Prim.Native.Nat.{ℕ, zero, suc, _+_, _*_, _/_, _%_, _^_}
 use mathlib.Core.List.{List, [], _∷_, _++_}
+use lib.ListN.{length, getD, drop}
 use Rattle.model_orders.specs.Object.{Link, Object}
 use Rattle.model_orders.specs.Words.{wordsOf}
 
@@ -31,6 +32,22 @@ gathered (a ∷ b ∷ []) = a ∷ b ∷ []
 gathered (a ∷ b ∷ c ∷ []) = a ∷ b ∷ c ∷ []
 gathered (a ∷ b ∷ c ∷ d ∷ l) = four a b c d ∷ gathered l
 
+-- those from i on
+abbrev pub fourAt : ℕ → List ℕ → ℕ
+fourAt i l = four (getD l i 0) (getD l (i + 1) 0) (getD l (i + 2) 0) (getD l (i + 3) 0)
+
+-- two words at a time, each to a number of its own, so that neither waits for the other
+abbrev pub twoWords : ℕ
+twoWords = 8
+
+-- n times; then both numbers as one, and the bytes left over
+unfoldable pub twined : ℕ → ℕ → ℕ → List ℕ → ℕ
+twined zero h g l = mixed (mix h (g % 2 ^ 32)) (gathered l)
+twined (suc n) h g l = twined n (mix h (fourAt 0 l)) (mix g (fourAt 4 l)) (drop twoWords l)
+
+abbrev pub hashBytes : List ℕ → ℕ
+hashBytes l = twined (length l / twoWords) 1 1 l
+
 -- the words of all links
 unfoldable pub wordsOfAll : List Link → List ℕ
 wordsOfAll [] = []
@@ -38,7 +55,7 @@ wordsOfAll (l ∷ ls) = wordsOf l ++ wordsOfAll ls
 
 -- of bytes, and of the words of links
 unfoldable pub hashBy : List ℕ → List ℕ → ℕ
-hashBy bytes words = mixed (mixed 1 (gathered bytes)) words
+hashBy bytes words = mixed (hashBytes bytes) words
 
 unfoldable pub hashOf : Object → ℕ
 hashOf o = hashBy (o .bytes) (wordsOfAll (o .links))

@@ -5,9 +5,12 @@ ghost use mathlib.Core.Path.{_≡_};
 ghost use Prim.Native.Nat.{_+_, _^_, _≤_, _<_};
 ghost use lib.ListN.{length, getD, drop};
 ghost use Rattle.lists.specs.Lists.{part};
-ghost use Rattle.session_hash.specs.Hash.{hashLimit, mix, mixed, gathered, four, hashBy};
+ghost use Rattle.session_hash.specs.Hash.{hashLimit, mix, mixed, gathered, four, hashBytes, hashBy};
 
 const HASH_LIMIT: u64 = 1 << 40;
+
+// What is mixed in is below this.
+const WORD_LIMIT: u64 = 1 << 32;
 
 // With it no product passes a u64, and every word moves the high bits.
 const HASH_FACTOR: u64 = 10368889;
@@ -48,18 +51,35 @@ fn mix_rest(from: u64, s: &[u8], at: usize) -> u64
     h
 }
 
-// By fours, then those left over.
-fn mix_bytes(s: &[u8]) -> u64
-    ensures { λ r. ⌜ (r ≡ mixed 1 (gathered (now (s .entry)))) × (r < hashLimit) ⌝ }
+// Those from `at` on by fours, then those left over.
+fn mix_fours(from: u64, s: &[u8], at: usize) -> u64
+    requires { ⌜ (from < hashLimit) × (at ≤ length (now s)) ⌝ }
+    ensures { λ r. ⌜ (r ≡ mixed from (gathered (drop at (now (s .entry))))) × (r < hashLimit) ⌝ }
 {
     let n = s.len();
-    let mut h = 1;
-    let mut i = 0;
+    let mut h = from;
+    let mut i = at;
     while 3 < n - i {
         h = mix(h, four(s, i));
         i += 4;
     }
     mix_rest(h, s, i)
+}
+
+// By eights, four to each of two numbers, so that one product is made while the other is waited for.
+fn mix_bytes(s: &[u8]) -> u64
+    ensures { λ r. ⌜ (r ≡ hashBytes (now (s .entry))) × (r < hashLimit) ⌝ }
+{
+    let n = s.len();
+    let mut h = 1;
+    let mut g = 1;
+    let mut i = 0;
+    while 7 < n - i {
+        h = mix(h, four(s, i));
+        g = mix(g, four(s, i + 4));
+        i += 8;
+    }
+    mix_fours(mix(h, g % WORD_LIMIT), s, i)
 }
 
 fn mix_words(from: u64, s: &[u32]) -> u64
