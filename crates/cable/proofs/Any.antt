@@ -11,13 +11,13 @@ use Rattle.lists.specs.Lists.{pick}
 use Rattle.lists.proofs.Over.{length-over, over-drop}
 use Rattle.lists.proofs.Same.{and-left, and-right}
 use Rattle.cable_send.specs.Frame.{frameSize}
-use Rattle.cable_head.specs.declared.answers.Feeding.the-variants as Feeding
-use Rattle.cable_head.specs.Scan.{lineNext, ends, scanned, scanOn}
-use Rattle.cable_head.specs.Judge.{toldCount, toldSize, toldData, isAwaited, fitsOut, accepted, outcome, verdict}
+use Rattle.cable_scan.specs.Scan.{lineNext, ends, scanned, scanOn}
+use Rattle.cable_judge.specs.declared.answers.Feeding.the-variants as Feeding
+use Rattle.cable_judge.specs.Judge.{toldCount, toldSize, toldData, isAwaited, fitsOut, accepted, outcome, verdict}
+use Rattle.cable_judge.proofs.Verdicts.{right, same, awaited-split, length-data}
 use Rattle.cable_head.specs.Feed.{lineAt, awaitedAt, countAt, heldSize, headNeed, numberAt, heldOf, numbers, headWith, scanOf, takenOf, stretchWith, verdictWith, Left, leftOf, fedOn, fedEnd, feedStep}
 use Rattle.cable_head.proofs.Heads.{length-numbers, short-none}
 use Rattle.cable_head.proofs.Feeds.{taken-most}
-use Rattle.cable_head.proofs.Verdicts.{right, same, awaited-split, length-data}
 use Rattle.cable.specs.Inside.{Inside}
 use Rattle.cable.specs.Runs.{feeds, offers}
 use Rattle.cable.proofs.Held.{with-length}

@@ -16,10 +16,10 @@ use Rattle.lists.proofs.Over.{length-over}
 use Rattle.lists.proofs.Overs.{over-then}
 use Rattle.lists.proofs.Runs.{over-none}
 use Rattle.cable_send.specs.Frame.{frame, frameSize, mostFrames, mostBytes, frameCount, framesFrom, sent}
-use Rattle.cable_head.specs.Scan.{stretchesOn, stretches}
-use Rattle.cable_head.specs.Judge.{agrees, rightSize, Outcome, outcome, verdict}
+use Rattle.cable_scan.specs.Scan.{stretchesOn, stretches}
+use Rattle.cable_judge.specs.Judge.{agrees, rightSize, Outcome, outcome, verdict}
+use Rattle.cable_judge.specs.declared.answers.Feeding.the-variants as Feeding
 use Rattle.cable_head.proofs.Heads.{short-none}
-use Rattle.cable_head.specs.declared.answers.Feeding.the-variants as Feeding
 use Rattle.cable.specs.Runs.{Fresh, runOf, answered, feeds, told, allAccepted}
 use Rattle.cable.proofs.Cutting.{any-cut}
 use Rattle.cable.proofs.Passing.{frame-stretch}

@@ -6,7 +6,7 @@ use Prim.Native.Nat.{ℕ, suc, _+_, _-_, _≤_, _<_}
 use native.Mathlib.Omega.{arith}
 use lib.ListN.{length, take, drop}
 use Rattle.lists.specs.Lists.{pick}
-use Rattle.cable_head.specs.Scan.{lineNext, ends, scanned, scanOn, stretchesOn}
+use Rattle.cable_scan.specs.Scan.{lineNext, ends, scanned, scanOn, stretchesOn}
 
 pub record On (k line : ℕ) (p t r : List ℕ) : Type 0 where
   pub all : scanOn k line t .taken ≡ k + length t

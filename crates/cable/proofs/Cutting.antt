@@ -9,8 +9,8 @@ use lib.Seq.{drop-append-le, drop-length, take-all}
 use borrow.Author.Tests.{le-ltb}
 use Rattle.lists.specs.Lists.{pick}
 use Rattle.big_endian.specs.BigEndian.{readFrom}
-use Rattle.cable_head.specs.Scan.{differs, stretchesOn, stretches}
-use Rattle.cable_head.specs.Judge.{Outcome, verdict}
+use Rattle.cable_scan.specs.Scan.{differs, stretchesOn, stretches}
+use Rattle.cable_judge.specs.Judge.{Outcome, verdict}
 use Rattle.cable_head.specs.Feed.{lenAt, lineAt, awaitedAt, countAt, heldAt, heldSize, headNeed, numberAt, lenOf, heldOf, headWith, scanOf, takenOf, stretchWith, verdictWith, Left, fedOn, fedEnd, feedStep}
 use Rattle.cable.specs.Runs.{Fresh, Run, answered, feeds, told}
 use Rattle.cable.proofs.Cuts.{On, cut-on, Ended, cut-end}

@@ -17,12 +17,12 @@ use Rattle.big_endian.proofs.Laws.{length-big, big-read}
 use Rattle.text.proofs.Decimals.{width-ten}
 use Rattle.cable_send.specs.Frame.{checkKey, lineFeed, frame, mostFrames}
 use Rattle.cable_send.proofs.LinesPut.{length-frame}
-use Rattle.cable_head.specs.declared.answers.Feeding.the-variants as Feeding
-use Rattle.cable_head.specs.Scan.{agreed, differs, lineNext, ends, scanned, scanOn}
-use Rattle.cable_head.specs.Judge.{toldCount, toldSize, toldData, isAwaited, fitsOut, accepted, outcome, verdict}
+use Rattle.cable_scan.specs.Scan.{agreed, differs, lineNext, ends, scanned, scanOn}
+use Rattle.cable_judge.specs.declared.answers.Feeding.the-variants as Feeding
+use Rattle.cable_judge.specs.Judge.{toldCount, toldSize, toldData, isAwaited, fitsOut, accepted, outcome, verdict}
+use Rattle.cable_judge.proofs.Verdicts.{Told, right, same, awaited-split, right-facts, length-data}
 use Rattle.cable_head.specs.Feed.{lenAt, lineAt, awaitedAt, countAt, heldAt, heldSize, headNeed, numberAt, lenOf, heldOf, numbers, headWith}
 use Rattle.cable_head.proofs.Heads.{length-numbers}
-use Rattle.cable_head.proofs.Verdicts.{Told, right, same, awaited-split, right-facts, length-data}
 
 -- ---- the head's bytes read back
 

@@ -12,9 +12,9 @@ use Rattle.text.specs.Digits.{char0, charA, digit, digits}
 use Rattle.text.specs.Decimal.{decimal}
 use Rattle.text.specs.Hex.{hexWord, hexPairs}
 use Rattle.cable_send.specs.Frame.{frameKey, ofKey, dataKey, checkKey, lineFeed, lineOf, checked, frame}
-use Rattle.cable_head.specs.Scan.{agreed, differs, stretchesOn}
-use Rattle.cable_head.specs.Lines.{quiet}
-use Rattle.cable_head.proofs.Scans.{quiet-append, quiet-first, quiet-rest}
+use Rattle.cable_scan.specs.Scan.{agreed, differs, stretchesOn}
+use Rattle.cable_scan.specs.Lines.{quiet}
+use Rattle.cable_scan.proofs.Scans.{quiet-append, quiet-first, quiet-rest}
 
 quiet-digit : (d : ℕ) → eqb (digit d) lineFeed ≡ false
 quiet-digit d = by (ltb d 10)

@@ -12,11 +12,11 @@ use Rattle.lists.specs.Lists.{pick, over, Exactly}
 use Rattle.lists.proofs.Same.{same-equal, and-left, and-right}
 use Rattle.text.specs.Hex.{pairValue, bytesOf}
 use Rattle.cable_send.specs.Frame.{frame, frameSize}
-use Rattle.cable_head.specs.declared.answers.Feeding.{Feeding}
-use Rattle.cable_head.specs.declared.answers.Feeding.the-variants as Feeding
-use Rattle.cable_head.specs.Judge.{toldCount, toldSize, toldData, isAwaited, fitsOut, accepted, Outcome, outcome, verdict}
+use Rattle.cable_judge.specs.declared.answers.Feeding.{Feeding}
+use Rattle.cable_judge.specs.declared.answers.Feeding.the-variants as Feeding
+use Rattle.cable_judge.specs.Judge.{toldCount, toldSize, toldData, isAwaited, fitsOut, accepted, Outcome, outcome, verdict}
+use Rattle.cable_judge.proofs.Verdicts.{Told, right, same, awaited-split, right-facts, length-data}
 use Rattle.cable_head.specs.Feed.{feedNumber}
-use Rattle.cable_head.proofs.Verdicts.{Told, right, same, awaited-split, right-facts, length-data}
 use Rattle.cable.specs.Awaited.{Awaited, Rightly}
 use Rattle.cable.specs.Runs.{more, told}
 use Rattle.cable.proofs.Seen.{answers}

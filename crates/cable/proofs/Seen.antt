@@ -21,8 +21,8 @@ use Rattle.text.proofs.Decimals.{decimal-read}
 use Rattle.text.proofs.Pairs.{length-pairs, pairs-read}
 use Rattle.cable_send.specs.Frame.{frameKey, ofKey, dataKey, checkKey, lineFeed, lineOf, checked, frame, frameSize, mostFrames}
 use Rattle.cable_send.proofs.LinesPut.{length-line, length-frame}
-use Rattle.cable_head.specs.declared.answers.Feeding.the-variants as Feeding
-use Rattle.cable_head.specs.Judge.{countFrom, dataFrom, toldCount, toldSize, toldData, agrees, rightSize, isFrame, fitsOut, outcome, verdict}
+use Rattle.cable_judge.specs.declared.answers.Feeding.the-variants as Feeding
+use Rattle.cable_judge.specs.Judge.{countFrom, dataFrom, toldCount, toldSize, toldData, agrees, rightSize, isFrame, fitsOut, outcome, verdict}
 
 module _ (n m : ℕ) (d : List ℕ) where
   check : List ℕ

@@ -6,7 +6,7 @@ use Prim.Native.Nat.{ℕ, _+_, _*_, _≤_, _<_}
 use lib.ListN.{length}
 use lib.Pow.{areBytes}
 use Rattle.cable_send.specs.Frame.{frameSize, mostFrames, frame}
-use Rattle.cable_head.specs.Judge.{agrees, rightSize}
+use Rattle.cable_judge.specs.Judge.{agrees, rightSize}
 
 -- s is frame n of m with the data d, while n is awaited and the first accepted count is c (0: none yet)
 pub record Awaited (n c : ℕ) (s : List ℕ) (m : ℕ) (d : List ℕ) : Type 0 where

@@ -6,10 +6,10 @@ use mathlib.Core.Bool.{Bool, true, _&&_}
 use lib.Dec.{leb}
 use lib.ListN.{length, take, drop, replicate}
 use Rattle.cable_send.specs.Frame.{frameSize}
-use Rattle.cable_head.specs.Judge.{verdict}
+use Rattle.cable_judge.specs.Judge.{verdict}
+use Rattle.cable_judge.specs.declared.answers.Feeding.{Feeding}
+use Rattle.cable_judge.specs.declared.answers.Feeding.the-variants as Feeding
 use Rattle.cable_head.specs.Feed.{heldAt, headNeed, feedStep}
-use Rattle.cable_head.specs.declared.answers.Feeding.{Feeding}
-use Rattle.cable_head.specs.declared.answers.Feeding.the-variants as Feeding
 
 -- a head before the first feed: long enough, and its numbers are 0
 pub record Fresh (h : List ℕ) : Type 0 where

@@ -7,11 +7,11 @@ use native.Mathlib.Omega.{arith}
 use lib.ListN.{length, take}
 use borrow.Author.Tests.{lt-ltb, le-ltb}
 use Rattle.lists.specs.Lists.{pick}
-use Rattle.cable_head.specs.Scan.{lineNext, ends, scanned, scanOn}
+use Rattle.cable_scan.specs.Scan.{lineNext, ends, scanned, scanOn}
+use Rattle.cable_scan.specs.declared.Scanned.{Scanned}
+use Rattle.cable_judge.specs.declared.answers.Feeding.{Feeding}
+use Rattle.cable_judge.specs.declared.answers.Feeding.the-variants as Feeding
 use Rattle.cable_head.specs.Feed.{headNeed, lineAt, numberAt, scanOf, headOn, leftOf, Concludes, feedStep}
-use Rattle.cable_head.specs.declared.scanning.Scanned.{Scanned}
-use Rattle.cable_head.specs.declared.answers.Feeding.{Feeding}
-use Rattle.cable_head.specs.declared.answers.Feeding.the-variants as Feeding
 
 scan-most : (k line : ℕ) (t : List ℕ) → scanOn k line t .taken ≤ k + length t
 unfolding scanOn

@@ -7,11 +7,11 @@ use lib.Dec.{eqb, ltb}
 use lib.ListN.{length, take}
 use Rattle.lists.specs.Lists.{pick, part, over}
 use Rattle.big_endian.specs.BigEndian.{bigEndian, readBig}
-use Rattle.cable_head.specs.Scan.{scanOn}
-use Rattle.cable_head.specs.Judge.{Outcome, verdict}
-use Rattle.cable_head.specs.declared.scanning.Scanned.{Scanned}
-use Rattle.cable_head.specs.declared.answers.Feeding.{Feeding}
-use Rattle.cable_head.specs.declared.answers.Feeding.the-variants as Feeding
+use Rattle.cable_scan.specs.Scan.{scanOn}
+use Rattle.cable_scan.specs.declared.Scanned.{Scanned}
+use Rattle.cable_judge.specs.Judge.{Outcome, verdict}
+use Rattle.cable_judge.specs.declared.answers.Feeding.{Feeding}
+use Rattle.cable_judge.specs.declared.answers.Feeding.the-variants as Feeding
 use Rattle.cable_head.specs.declared.answers.Fed.{Fed}
 
 -- ---- the head's bytes: four numbers, then the held text

@@ -1,5 +1,1 @@
-pub mod Scan
-pub mod Lines
-pub mod Judge
-pub mod Judged
 pub mod Feed

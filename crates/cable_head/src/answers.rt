@@ -1,15 +1,7 @@
-// What a feed answers.
+// What a feed tells: its answer, by a number too, and how far it came.
+use cable_judge::answers::Feeding;
 ghost use mathlib.Core.Path.{_≡_};
 ghost use Rattle.cable_head.specs.Feed.{feedNumber};
-
-// The answer to the first stretch that ended, with how many bytes an accepted frame has; or that none did; or that the head is too short.
-pub enum Feeding {
-    Accepted(usize),
-    OutputShort,
-    NotAwaited,
-    Unended,
-    HeadShort,
-}
 
 // The answer, and how many bytes were taken.
 pub struct Fed {

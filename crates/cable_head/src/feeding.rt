@@ -1,6 +1,5 @@
 // The head, fed text in any cuts.
 use crate::answers::Fed;
-use crate::answers::Feeding;
 use crate::holding::AWAITED_AT;
 use crate::holding::COUNT_AT;
 use crate::holding::HELD;
@@ -11,15 +10,16 @@ use crate::holding::begin;
 use crate::holding::hold;
 use crate::holding::len_of;
 use crate::holding::number_at;
-use crate::scanning::scan;
-use crate::settling::Settled;
-use crate::settling::settle;
+use cable_judge::answers::Feeding;
+use cable_judge::settling::Settled;
+use cable_judge::settling::settle;
+use cable_scan::scan;
 use memory::least;
 ghost use mathlib.Core.Path.{_≡_};
 ghost use Prim.Native.Nat.{_≤_};
 ghost use lib.ListN.{length};
-ghost use Rattle.cable_head.specs.Judge.{verdict};
-ghost use Rattle.cable_head.specs.Judged.{settledOf};
+ghost use Rattle.cable_judge.specs.Judge.{verdict};
+ghost use Rattle.cable_judge.specs.Judged.{settledOf};
 ghost use Rattle.cable_head.specs.Feed.{headNeed, stretchWith, verdictWith, Concludes, fedLeft, feedStep, isWhole};
 
 // Answers the stretch that is held in the head and ends with t: the two are joined first.

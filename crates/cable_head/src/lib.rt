@@ -2,7 +2,3 @@
 pub mod answers;
 pub mod feeding;
 mod holding;
-mod judging;
-mod reading;
-mod scanning;
-mod settling;

@@ -5,8 +5,8 @@ use mathlib.Core.List.{List}
 use Rattle.answer.specs.Number.{number}
 use Rattle.cable_send.specs.declared.sending.Sending.{Sending}
 use Rattle.cable_send.specs.declared.sending.Sending.the-variants as Sending
-use Rattle.cable_head.specs.declared.answers.Feeding.{Feeding}
-use Rattle.cable_head.specs.declared.answers.Feeding.the-variants as Feeding
+use Rattle.cable_judge.specs.declared.answers.Feeding.{Feeding}
+use Rattle.cable_judge.specs.declared.answers.Feeding.the-variants as Feeding
 use Rattle.cable_head.specs.Feed.{Left, feedNumber, isWhole}
 use Rattle.capi_answer.specs.declared.cable.SentNumbers.{SentNumbers}
 use Rattle.capi_answer.specs.declared.cable.FedNumbers.{FedNumbers}

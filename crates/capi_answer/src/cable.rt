@@ -1,7 +1,7 @@
 // What send and feed tell, as numbers.
 use answer::number_of;
 use cable_head::answers::Fed;
-use cable_head::answers::Feeding;
+use cable_judge::answers::Feeding;
 use cable_send::sending::Sending;
 ghost use mathlib.Core.Path.{_≡_};
 ghost use Rattle.cable_head.specs.Feed.{isWhole};

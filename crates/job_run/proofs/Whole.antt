@@ -16,16 +16,16 @@ use Rattle.job_rules.specs.Job.{mostText, on, stop, mostBytes, mostObjects, mos
 use Rattle.job_rules.specs.declared.Ending.{Ending}
 use Rattle.job_rules.specs.declared.Ending.the-variants.{Refused}
 use Rattle.steps.specs.Steps.{limitsOf as limitsBy}
-use Rattle.job_run.specs.Header.{linksLine, limitsOf, headed, Reads}
-use Rattle.job_run.specs.Halts.{Halts}
-use Rattle.job_run.specs.Ends.{Ends, Finishing, Finishes}
+use Rattle.job_header.specs.Header.{linksLine, limitsOf, headed, Reads}
+use Rattle.job_rest.specs.Halts.{Halts}
+use Rattle.job_finish.specs.Ends.{Ends, Finishing, Finishes}
 use Rattle.job_run.specs.Lent.{Lends, Ranged}
-use Rattle.job_run.specs.declared.header.Limits.{Limits as Read}
-use Rattle.job_run.specs.declared.header.Header.{Header}
-use Rattle.job_run.specs.declared.header.Header.the-variants as Header
-use Rattle.job_run.specs.declared.rest.Halt.{Halt}
-use Rattle.job_run.proofs.Lined.{run-stop}
-use Rattle.job_run.proofs.Ending.{ends-refused, ends-as}
+use Rattle.job_header.specs.declared.Limits.{Limits as Read}
+use Rattle.job_header.specs.declared.Header.{Header}
+use Rattle.job_header.specs.declared.Header.the-variants as Header
+use Rattle.job_rest.specs.declared.Halt.{Halt}
+use Rattle.job_header.proofs.Lined.{run-stop}
+use Rattle.job_finish.proofs.Ending.{ends-refused, ends-as}
 use Rattle.job_run.proofs.Starting.{limit-above, Started}
 
 -- a job's limits are in it

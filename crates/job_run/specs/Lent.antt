@@ -1,20 +1,16 @@
 -- docs/RULES.md, 12.4: what a job's code is lent.
-use Prim.Native.Nat.{ℕ, _+_, _*_, _/_, _≤_}
+use Prim.Native.Nat.{ℕ, _*_, _≤_}
 use mathlib.Core.Path.{_≡_}
 use mathlib.Core.List.{List}
 use mathlib.Core.Bool.{true}
 use lib.ListN.{length}
 use Rattle.layout.specs.Words.{need}
 use Rattle.work.specs.Areas.{workNeed}
-use Rattle.job_items.specs.Item.{pieceLeast}
 use Rattle.lists.specs.Lists.{holds}
 use Rattle.job_rules.specs.Job.{mostText, mostObjects, mostLinks, copiesAllowed, inJob}
-use Rattle.job_run.specs.Header.{limitsOf}
-use Rattle.job_run.specs.declared.header.Limits.{Limits}
-
--- how many piece lines a text can have, and some more
-abbrev pub mostPieces : ℕ
-mostPieces = mostText / pieceLeast + 1
+use Rattle.job_header.specs.Header.{limitsOf}
+use Rattle.job_header.specs.declared.Limits.{Limits}
+use Rattle.job_rest.specs.Halts.{mostPieces}
 
 -- enough for any job: record words and work memory for the greatest limits, an id for each piece line, and room for the bytes of any line's hex pairs
 pub record Lends (w ids space m : List ℕ) : Type 0 where

@@ -1,11 +1,8 @@
 // A job run (docs/RULES.md, section 12): its text read line by line, the calls of each line made, and the last piece line's object packed.
-mod finish;
-mod header;
-mod rest;
 mod start;
 
-use header::Header;
-use header::read_limits;
+use job_header::Header;
+use job_header::read_limits;
 use job_items::PIECE_LEAST;
 use job_rules::BREACH;
 use job_rules::Ending;
@@ -18,7 +15,7 @@ ghost use lib.ListN.{length};
 ghost use Rattle.lists.specs.Lists.{over};
 ghost use Rattle.job_lines.specs.Lines.{cut};
 ghost use Rattle.job_rules.specs.Job.{mostText, mostBytes, bytesDue, on, run, job};
-ghost use Rattle.job_run.specs.Ends.{Ends};
+ghost use Rattle.job_finish.specs.Ends.{Ends};
 ghost use Rattle.job_run.specs.Lent.{Lends};
 
 // What is lent to a job's calls is enough for any job: record words and work memory for its greatest limits,

@@ -1,11 +1,11 @@
 // The session started, and the lines behind its limits.
-use crate::finish::finish;
-use crate::header::LINKS_LINE;
-use crate::header::Limits;
-use crate::rest::run_pieces;
 use answer::Refusal;
 use answer::number_of;
 use job_calls::told::told;
+use job_finish::finish;
+use job_header::LINKS_LINE;
+use job_header::Limits;
+use job_rest::run_pieces;
 use job_rules::Ending;
 use job_rules::MOST_BYTES;
 use job_rules::MOST_LINKS;
@@ -17,8 +17,8 @@ ghost use lib.ListN.{length, drop};
 ghost use Rattle.job_lines.specs.Lines.{cut};
 ghost use Rattle.lists.specs.Lists.{holds};
 ghost use Rattle.job_rules.specs.Job.{mostText, mostBytes, inJob, starts, run};
-ghost use Rattle.job_run.specs.Ends.{Ends};
-ghost use Rattle.job_run.specs.Header.{linksLine, limitsOf};
+ghost use Rattle.job_finish.specs.Ends.{Ends};
+ghost use Rattle.job_header.specs.Header.{linksLine, limitsOf};
 ghost use Rattle.job_run.specs.Lent.{Ranged, Lends};
 
 // In a byte store of just the length that the job asks for.

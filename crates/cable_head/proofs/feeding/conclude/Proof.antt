@@ -1,5 +1,5 @@
 -- The verdict, and the head at the next stretch.
-use Rattle.cable_head.specs.declared.settling.Settled.{Settled}
+use Rattle.cable_judge.specs.declared.settling.Settled.{Settled}
 use mathlib.Core.Path.{ap, _∙_}
 use borrow.Author.Needs.{needs}
 use Rattle.cable_head.proofs.feeding.conclude.Statement.{statement}

@@ -1,5 +1,5 @@
 -- By the first limit that is above a job's.
-use Rattle.job_run.specs.Header.{limitsOf}
+use Rattle.job_header.specs.Header.{limitsOf}
 use Rattle.job_rules.specs.Job.{mostBytes, mostObjects, mostLinks, inJob}
 use Rattle.lists.proofs.Holds.{holds-not}
 use Rattle.lists.specs.Lists.{holds}

@@ -1,6 +1,6 @@
 -- 13, or a session in a byte store of just the length that the job asks for.
 use Rattle.job_run.proofs.Whole.{within-bytes, above-there}
-use Rattle.job_run.specs.Header.{limitsOf}
+use Rattle.job_header.specs.Header.{limitsOf}
 use borrow.Author.Tests.{not-true, not-false}
 use native.Mathlib.Omega.{arith}
 use mathlib.Core.Path.{sym, _∙_}
