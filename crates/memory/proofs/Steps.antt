@@ -46,7 +46,7 @@ over-is : (i : ℕ) (vs l : List ℕ) → over i vs l ≡ take i l ++ (vs ++ dro
 unfolding over
 over-is i vs l = refl
 
-over-over : (i : ℕ) (us vs l : List ℕ) → length us ≤ length vs → i + length vs ≤ length l → over i vs (over i us l) ≡ over i vs l
+pub over-over : (i : ℕ) (us vs l : List ℕ) → length us ≤ length vs → i + length vs ≤ length l → over i vs (over i us l) ≡ over i vs l
 over-over i us vs l h b =
     let room : i + length us ≤ length l = omega arith in
     over-is i vs (over i us l)

@@ -93,6 +93,18 @@ fn copy_8(s: &mut [u8], at: usize, src: &[u8])
     step_8(s, at, src, last);
 }
 
+// So many bytes are copied most quickly: no branch and no step goes by how many there are.
+pub const WIDE: usize = 48;
+
+fn copy_wide(s: &mut [u8], at: usize, src: &[u8])
+    requires { ⌜ (at + length (now src) ≤ length (now s)) × (length (now src) ≡ 48) ⌝ }
+    ensures { λ _. ⌜ now (s .exit) ≡ over at (now (src .entry)) (now (s .entry)) ⌝ }
+{
+    copy_8(s, at, &src[..32]);
+    step_8(s, at, src, 32);
+    step_8(s, at, src, 40);
+}
+
 // Eight bytes or more in steps, of which the last may overlap the one before.
 fn copy_more(s: &mut [u8], at: usize, src: &[u8])
     requires { ⌜ (at + length (now src) ≤ length (now s)) × (8 ≤ length (now src)) ⌝ }
@@ -128,6 +140,10 @@ pub fn copy(s: &mut [u8], at: usize, src: &[u8])
     ensures { λ _. ⌜ now (s .exit) ≡ over at (now (src .entry)) (now (s .entry)) ⌝ }
 {
     let n = src.len();
+    if n == WIDE {
+        copy_wide(s, at, src);
+        return;
+    }
     if MANY < n {
         copy_each(s, at, src);
         return;

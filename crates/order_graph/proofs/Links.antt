@@ -3,7 +3,7 @@ use mathlib.Core.Path.{_≡_, refl, sym, ap, subst, _∙_}
 use Prim.Native.Nat.{ℕ, suc, _+_, _-_, _*_, _≤_, _<_}
 use mathlib.Core.List.{List, [], _∷_}
 use native.Mathlib.Omega.{arith}
-use lib.ListN.{getD, take}
+use lib.ListN.{length, getD, take}
 use lib.Seq.{getD-take}
 use borrow.Author.Tests.{lt-ltb}
 use Rattle.big_endian.specs.BigEndian.{capacity}
@@ -15,25 +15,30 @@ use Rattle.regions.specs.Region.{Kept}
 use Rattle.regions.proofs.Frame.{kept-less}
 use Rattle.work.specs.Packed.{packedWords, packedAt}
 use Rattle.work.specs.declared.Areas.{Areas}
-use Rattle.order_graph.specs.Graph.{graphIn, linkOf, linksAt, linksFrom, linksAfter, linkCount, Stands, AtNode, AtLink, FieldOf, EdgeOf}
+use Rattle.order_graph.specs.Graph.{graphIn, linkOf, linksAt, linksFrom, linksAfter, linkCount, Stands, AtNode, AtLink, FromLink, FieldOf, EdgeOf}
 
 pub count-word : {a : Areas} {n i : ℕ} {w : List ℕ} → AtNode a n i w → getD w (a .counts + i) 0 ≡ linkCount a (take (a .keys) w) i
 count-word {a} {n} {i} {w} s = sym (getD-take (a .keys) w (a .counts + i) 0 (omega arith))
+
+-- where the words of a node's links begin, and that they lie in front
+module _ {a : Areas} {n i : ℕ} {w : List ℕ} (s : AtNode a n i w) where
+  pub links-are : a .links + getD w (a .firsts + i) 0 * packedWords ≡ linksAt a (take (a .keys) w) i
+  links-are = rw (getD-take (a .keys) w (a .firsts + i) 0 (omega arith))
+
+  pub links-within : a .links + getD w (a .firsts + i) 0 * packedWords ≤ a .keys
+  links-within = omega (arith, links-are, s .graph .tidy .node i (s .inside) .within)
 
 module _ {a : Areas} {n i t : ℕ} {w : List ℕ} (s : AtLink a n i t w) where
   abbrev g : ℕ
   g = a .keys
 
-  -- where the words of a link begin, and that they lie in front
-  pub words-are : a .links + getD w (a .firsts + i) 0 * packedWords + t * packedWords ≡ linksAt a (take g w) i + t * packedWords
-  words-are = rw (getD-take g w (a .firsts + i) 0 (omega arith))
-
-  pub words-in : a .links + getD w (a .firsts + i) 0 * packedWords + t * packedWords + packedWords ≤ g
-  words-in = omega (arith, words-are, s .node .graph .tidy .node i (s .node .inside) .within)
+  -- the words of a link lie in front
+  pub words-in : linksAt a (take g w) i + t * packedWords + packedWords ≤ g
+  words-in = omega (arith, s .node .graph .tidy .node i (s .node .inside) .within)
 
   pub words-read : (j : ℕ) → j ≡ linksAt a (take g w) i + t * packedWords → FieldOf a n (take g w) i t (packedAt w j)
   words-read j e =
-      let b : j + packedWords ≤ g = omega (arith, words-in, words-are) in
+      let b : j + packedWords ≤ g = omega (arith, words-in) in
       let is : linkOf a (take g w) i t ≡ packedAt w j = rw (← e, getD-take g w j 0 (omega arith), getD-take g w (j + 1) 0 (omega arith)) in
       let o = s .node .graph .tidy .node i (s .node .inside) in
       subst (FieldOf a n (take g w) i t) is (record { is = refl; narrow = width-most _ (o .wide t (s .some)); known = o .known t (s .some) })
@@ -52,6 +57,14 @@ module _ {a : Areas} {n i t : ℕ} {w : List ℕ} (s : AtLink a n i t w) where
         light = omega (arith, d .light (l .child) b, capacity-rises (l .slot .width) widest (f .narrow));
       }
 
+-- the two words of a link are words of the memory
+module _ {a : Areas} {n i t from : ℕ} {w : List ℕ} (s : FromLink a n i t from w) where
+  front-long : a .keys ≤ length w
+  front-long = let stands = s .link .node .graph in omega (arith, stands .apart, stands .long)
+
+  pub from-within : from + t * packedWords + packedWords ≤ length w
+  from-within = omega (arith, words-in (s .link), front-long)
+
 -- the graph stands, and is the same, while nothing in front changes
 module _ {a : Areas} {n x y : ℕ} {w₀ w : List ℕ} (s : Stands a n w₀) (k : Kept x y w₀ w) (h : a .keys ≤ x) where
   pub front-kept : take (a .keys) w ≡ take (a .keys) w₀
@@ -62,6 +75,10 @@ module _ {a : Areas} {n x y : ℕ} {w₀ w : List ℕ} (s : Stands a n w₀) (k 
 
 pub link-kept : {a : Areas} {n i t x y : ℕ} {w₀ w : List ℕ} → AtNode a n i w₀ → Kept x y w₀ w → a .keys ≤ x → t < linkCount a (take (a .keys) w₀) i → AtLink a n i t w
 link-kept s k h b = record { node = record { graph = stands-kept (s .graph) k h; inside = s .inside }; some = rw (front-kept (s .graph) k h) b }
+
+pub from-kept : {a : Areas} {n i t from x y : ℕ} {w₀ w : List ℕ} → AtNode a n i w₀ → Kept x y w₀ w → a .keys ≤ x → t < linkCount a (take (a .keys) w₀) i
+    → from ≡ linksAt a (take (a .keys) w₀) i → FromLink a n i t from w
+from-kept s k h b e = record { link = link-kept s k h b; begins = rw (front-kept (s .graph) k h) e }
 
 -- ---- the nodes of the graph, and a node's links one by one
 

@@ -126,6 +126,11 @@ pub record AtLink (a : Areas) (n i t : ℕ) (w : List ℕ) : Type 0 where
   pub node : AtNode a n i w
   pub some : t < linkCount a (take (a .keys) w) i
 
+-- the same where the words of node i's links are known to begin at `from`
+pub record FromLink (a : Areas) (n i t from : ℕ) (w : List ℕ) : Type 0 where
+  pub link : AtLink a n i t w
+  pub begins : from ≡ linksAt a (take (a .keys) w) i
+
 -- the link that a field was read as
 abbrev pub linkBy : Field → Link
 linkBy f = linkOfWords (f .at) (f .width) (f .inner) (f .child)

@@ -9,7 +9,7 @@ ghost use Prim.Native.Nat.{_+_, _*_, _≤_, _<_};
 ghost use lib.ListN.{take};
 ghost use Rattle.work.specs.Packed.{packedWords};
 ghost use Rattle.work.specs.Views.{originIn};
-ghost use Rattle.order_graph.specs.Graph.{AtNode, AtLink, FieldOf, EdgeOf, Owned, HasOrigin, linkBy, linksAt, linkCount, objectOf, mostNodes};
+ghost use Rattle.order_graph.specs.Graph.{AtNode, AtLink, FromLink, FieldOf, EdgeOf, Owned, HasOrigin, linkBy, linksAt, linkCount, objectOf, mostNodes};
 
 // A link: its field's place and width, and the child.
 pub struct Field {
@@ -63,14 +63,22 @@ pub fn link_count(work: &[u64], a: Areas, n: usize, i: usize) -> usize
     work[at] as usize
 }
 
+// Where the words of node i's links begin.
+pub fn links_at(work: &[u64], a: Areas, n: usize, i: usize) -> usize
+    requires { ⌜ AtNode a n i (now work) ⌝ }
+    ensures { λ r. ⌜ r ≡ linksAt a (take (a .keys) (now (work .entry))) i ⌝ }
+{
+    let at = a.firsts + i;
+    let first = work[at] as usize;
+    a.links + first * PACKED_WORDS
+}
+
 // Where the words of link t of node i begin.
 pub fn words_at(work: &[u64], a: Areas, n: usize, i: usize, t: usize) -> usize
     requires { ⌜ AtLink a n i t (now work) ⌝ }
     ensures { λ r. ⌜ (r + packedWords ≤ a .keys) × (r ≡ linksAt a (take (a .keys) (now (work .entry))) i + t * packedWords) ⌝ }
 {
-    let at = a.firsts + i;
-    let first = work[at] as usize;
-    a.links + first * PACKED_WORDS + t * PACKED_WORDS
+    links_at(work, a, n, i) + t * PACKED_WORDS
 }
 
 // Link t of node i.
@@ -78,7 +86,15 @@ pub fn field_at(work: &[u64], a: Areas, n: usize, i: usize, t: usize) -> Field
     requires { ⌜ AtLink a n i t (now work) ⌝ }
     ensures { λ r. ⌜ FieldOf a n (take (a .keys) (now (work .entry))) i t (linkBy r) ⌝ }
 {
-    let j = words_at(work, a, n, i, t);
+    field_from(work, a, n, i, t, links_at(work, a, n, i))
+}
+
+// Link t of node i, whose links' words begin at `from`: a loop that writes reads that once.
+pub fn field_from(work: &[u64], a: Areas, n: usize, i: usize, t: usize, from: usize) -> Field
+    requires { ⌜ FromLink a n i t from (now work) ⌝ }
+    ensures { λ r. ⌜ FieldOf a n (take (a .keys) (now (work .entry))) i t (linkBy r) ⌝ }
+{
+    let j = from + t * PACKED_WORDS;
     let slot = work[j];
     let target = work[j + 1];
     Field {
@@ -89,12 +105,12 @@ pub fn field_at(work: &[u64], a: Areas, n: usize, i: usize, t: usize) -> Field
     }
 }
 
-// The child and the weight of link t of node i.
-pub fn edge_at(work: &[u64], a: Areas, n: usize, i: usize, t: usize) -> Edge
-    requires { ⌜ AtLink a n i t (now work) ⌝ }
+// The child and the weight of link t of node i, likewise.
+pub fn edge_from(work: &[u64], a: Areas, n: usize, i: usize, t: usize, from: usize) -> Edge
+    requires { ⌜ FromLink a n i t from (now work) ⌝ }
     ensures { λ r. ⌜ EdgeOf a n (take (a .keys) (now (work .entry))) i t (r .child) (r .weight) ⌝ }
 {
-    let f = field_at(work, a, n, i, t);
+    let f = field_from(work, a, n, i, t, from);
     let child = f.child;
     Edge {
         child: child,

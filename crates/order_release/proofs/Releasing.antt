@@ -3,11 +3,13 @@ use mathlib.Core.Path.{_≡_, refl, sym, ap, _∙_}
 use Prim.Native.Nat.{ℕ, zero, suc, _+_, _-_, _≤_, _<_, max}
 use mathlib.Core.List.{List, [], _∷_, _++_}
 use mathlib.Core.Bool.{Bool, true, false}
+use native.Mathlib.Nat.{add-zero}
 use native.Mathlib.Omega.{arith}
 use lib.ListN.{length, getD, set, length-set, length-append}
 use lib.Seq.{set-getD}
 use lib.Dec.{eqb}
-use borrow.Author.Tests.{eq-eqb, ne-eqb}
+use borrow.Author.Tests.{ne-eqb}
+use mir.Val.{boolByte}
 use Rattle.lists.specs.Lists.{pick}
 use Rattle.regions.specs.Region.{region, ceiling, Kept}
 use Rattle.regions.proofs.Laws.{region-at, region-in, region-under, region-over, region-push}
@@ -35,8 +37,11 @@ waiting-less [] c = refl
 waiting-less (x ∷ l) zero = omega (arith, fewer x)
 waiting-less (x ∷ l) (suc c) = omega (arith, waiting-less l c)
 
-waiting-some : (l : List ℕ) (c : ℕ) → getD l c 0 ≡ 1 → 0 < waiting l
-waiting-some l c h = omega (arith, rw (eq-eqb _ _ h) at (waiting-less l c))
+waiting-some : (l : List ℕ) (c : ℕ) → (getD l c 0 ≡ 0 → ⊥) → 0 < waiting l
+unfolding waiting
+waiting-some [] c h = absurd (h refl)
+waiting-some (x ∷ l) zero h = rw (ne-eqb x 0 h) (omega arith)
+waiting-some (x ∷ l) (suc c) h = omega (arith, waiting-some l c h)
 
 module _ (c : ℕ) (s : Arrivals) where
   -- one that no longer waits is ready
@@ -58,6 +63,10 @@ module _ (c : ℕ) (s : Arrivals) where
 
 -- ---- the stores of one link taken off
 
+pub counted : (t : Bool) → boolByte t ≡ pick t 1 0
+counted true = refl
+counted false = refl
+
 module _ {a : Areas} {at m c : ℕ} {w : List ℕ} (s : Releasing a at m c w) where
   -- the word of how many links lead to c
   abbrev word-index : ℕ
@@ -72,8 +81,9 @@ module _ {a : Areas} {at m c : ℕ} {w : List ℕ} (s : Releasing a at m c w) wh
   word-at : word ≡ getD counts c 0
   word-at = region-at (a .waiting) (a .nodes) w c (s .inside)
 
-  pub release-room : word ≡ 1 → m < a .nodes
-  release-room e = omega (arith, waiting-some counts c (sym word-at ∙ e))
+  -- while a node waits, not all have arrived
+  pub release-room : (word ≡ 0 → ⊥) → m < a .nodes
+  release-room e = omega (arith, waiting-some counts c (λ z. e (word-at ∙ z)))
 
   pub release-none : word ≡ 0 → Arrives a at m m (released c) w w
   release-none e =
@@ -81,31 +91,47 @@ module _ {a : Areas} {at m c : ℕ} {w : List ℕ} (s : Releasing a at m c w) wh
       let same : set counts c 0 ≡ counts = rw z at (set-getD counts c 0) in
       record { kept = kept-all; arrivals = rw (z, same) }
 
-  stored : arrivalsOf a at m (set w word-index (word - 1)) ≡ record { counts = set counts c (getD counts c 0 - 1); arrived = region at m w }
-  stored =
-      rw (
-        ← word-at,
-        region-in (a .waiting) (a .nodes) w c (word - 1) (s .inside),
-        region-under at m w word-index (word - 1) (omega arith),
-      )
+  -- c stands behind those that have arrived
+  module _ (e : word ≡ 0 → ⊥) where
+    abbrev less : List ℕ
+    less = set w word-index (word - 1)
 
-  kept-count : Kept (a .waiting) (at + a .nodes) w (set w word-index (word - 1))
-  kept-count = kept-set (a .waiting) (at + a .nodes) w word-index _ (omega arith) (omega arith)
+    abbrev after : List ℕ
+    after = set less (at + m) c
 
-  pub release-some : (word ≡ 1 → ⊥) → Arrives a at m m (released c) w (set w word-index (word - 1))
-  release-some e =
-      let more : getD counts c 0 ≡ 1 → ⊥ = λ q. e (word-at ∙ q) in
-      record { kept = kept-count; arrivals = stored ∙ rw (ne-eqb _ _ more) }
+    room : m < a .nodes
+    room = release-room e
 
-  pub release-last : word ≡ 1 → Arrives a at m (m + 1) (released c) w (set (set w word-index (word - 1)) (at + m) c)
-  release-last e =
-      let one : getD counts c 0 ≡ 1 = sym word-at ∙ e in
-      let room = release-room e in
-      let v : List ℕ = set w word-index (word - 1) in
-      let long : length v ≡ length w = length-set w _ _ in
-      record {
-        kept = kept-then kept-count (kept-set (a .waiting) (at + a .nodes) v (at + m) c (omega arith) (omega arith));
-        arrivals =
-            rw (region-over (a .waiting) (a .nodes) v (at + m) c (omega arith), region-push at m v c (omega arith))
-            (ap (λ (q : Arrivals). record { counts = q .counts; arrived = q .arrived ++ (c ∷ []) }) stored ∙ rw (eq-eqb _ _ one));
-      }
+    long : length less ≡ length w
+    long = length-set w word-index (word - 1)
+
+    kept : Kept (a .waiting) (at + a .nodes) w after
+    kept =
+        kept-then (kept-set (a .waiting) (at + a .nodes) w word-index _ (omega arith) (omega arith))
+        (kept-set (a .waiting) (at + a .nodes) less (at + m) c (omega arith) (omega (arith, room)))
+
+    counts-are : waitingIn a after ≡ set counts c (getD counts c 0 - 1)
+    counts-are =
+        rw (
+          ← word-at,
+          region-over (a .waiting) (a .nodes) less (at + m) c (omega arith),
+          region-in (a .waiting) (a .nodes) w c (word - 1) (s .inside),
+        )
+
+    before : region at m less ≡ region at m w
+    before = region-under at m w word-index (word - 1) (omega arith)
+
+    -- and is counted there if it waits for nothing
+    arrived-are : (t : Bool) → region at (m + pick t 1 0) after ≡ pick t (region at m w ++ (c ∷ [])) (region at m w)
+    arrived-are true = rw (region-push at m less c (omega (arith, room, long)), before)
+    arrived-are false = rw (add-zero m, region-over at m less (at + m) c (omega arith), before)
+
+    pub release-some : {r : ℕ} → r ≡ pick (eqb word 1) 1 0 → Arrives a at m (m + r) (released c) w after
+    release-some q = record { kept = kept; arrivals = rw (q, counts-are, arrived-are (eqb word 1), word-at) }
+
+    pub release-few : {r : ℕ} → r ≡ pick (eqb word 1) 1 0 → m + r ≤ a .nodes
+    release-few q = rw q (go (eqb word 1))
+      where
+        go : (t : Bool) → m + pick t 1 0 ≤ a .nodes
+        go true = omega (arith, room)
+        go false = omega (arith, room)

@@ -10,8 +10,8 @@ use Rattle.regions.proofs.Frame.{kept-all, kept-then}
 use Rattle.work.specs.declared.Areas.{Areas}
 use Rattle.work.specs.Views.{waitingIn}
 use Rattle.model_orders.specs.Object.{Link}
-use Rattle.order_graph.specs.Graph.{graphOn, linksAfter, linkCount, AtLink, FieldOf}
-use Rattle.order_graph.proofs.Links.{links-in, links-read, links-none, front-kept, stands-kept}
+use Rattle.order_graph.specs.Graph.{graphOn, linksAt, linksAfter, linkCount, FromLink, FieldOf}
+use Rattle.order_graph.proofs.Links.{links-in, links-read, links-none, front-kept, stands-kept, from-kept}
 use Rattle.order_release.specs.Release.{Arrivals, released, releasedAll, waiting, arrivalsOf, Arrives, Live, ReleasedAll}
 use Rattle.order_release.proofs.Releasing.{released-same, released-ceiling}
 
@@ -36,9 +36,8 @@ module _ {a : Areas} {at n i m : ℕ} {w₀ : List ℕ} (v : Live a at n m w₀)
     front-same = front-kept (v .graph) (s .kept) (omega (arith, v .area .apart))
 
     module _ (u : t < linkCount a front i) where
-      pub unlinking-link : AtLink a n i t w
-      unlinking-link =
-          record { node = record { graph = stands-kept (v .graph) (s .kept) (omega (arith, v .area .apart)); inside = h }; some = rw front-same u }
+      pub unlinking-link : {from : ℕ} → from ≡ linksAt a front i → FromLink a n i t from w
+      unlinking-link = from-kept (record { graph = v .graph; inside = h }) (s .kept) (omega (arith, v .area .apart)) u
 
       pub unlinking-next : {m″ : ℕ} {l : Link} {w′ : List ℕ} → FieldOf a n (take (a .keys) w) i t l → Arrives a at m′ m″ (released (l .child)) w w′ → m′ ≤ m″ → m″ ≤ a .nodes
           → Unlinking a at n i (t + 1) m m″ w₀ w′

@@ -1,19 +1,21 @@
 -- Space 0 marked: along a node's links, and along the order.
 use mathlib.Core.Path.{_≡_, refl, sym, _∙_}
-use Prim.Native.Nat.{ℕ, _+_, _≤_, _<_}
-use mathlib.Core.List.{List, _∷_}
-use mathlib.Core.Bool.{Bool, true, false, not}
+use Prim.Native.Nat.{ℕ, zero, suc, _+_, _≤_, _<_}
+use mathlib.Core.List.{List, [], _∷_}
+use mathlib.Core.Bool.{Bool, true, false}
 use native.Mathlib.Omega.{arith}
 use lib.ListN.{getD, set, take, drop}
+use lib.Seq.{set-getD}
 use borrow.Author.Tests.{eq-eqb, ne-eqb}
+use Rattle.lists.specs.Lists.{pick}
 use Rattle.regions.specs.Region.{Kept}
 use Rattle.regions.proofs.Laws.{region-at, region-in}
 use Rattle.regions.proofs.Frame.{kept-all, kept-then, kept-set}
 use Rattle.model_orders.specs.Space.{narrowOf, narrowKids}
 use Rattle.work.specs.Views.{orderIn, spotsIn}
 use Rattle.work.specs.declared.Areas.{Areas}
-use Rattle.order_graph.specs.Graph.{graphOn, linksAfter, linkCount, AtNode, AtLink}
-use Rattle.order_graph.proofs.Links.{front-kept, link-kept}
+use Rattle.order_graph.specs.Graph.{graphOn, linksAt, linksAfter, linkCount, AtNode, FromLink}
+use Rattle.order_graph.proofs.Links.{front-kept, from-kept}
 use Rattle.order_spaces.specs.Spaces.{cleared, clearedAll, KidOf, Ordered, SpotsSet, ClearedLinks, ClearedAlong, Marked}
 use Rattle.order_spaces.proofs.Frames.{ordered-kept, order-kept, node-in, order-rest, order-done}
 use Rattle.order_spaces.proofs.Kids.{kids-all, kids-none, kid-narrow, kid-wide}
@@ -24,30 +26,52 @@ pub record Clearing (a : Areas) (n i t : ℕ) (w₀ w : List ℕ) : Type 0 where
   pub some : t ≤ linkCount a (take (a .keys) w₀) i
   pub kept : Kept (a .spots) (a .waiting) w₀ w
   pub left : cleared (narrowKids (graphOn a n w₀) i) (spotsIn a w₀) ≡ cleared (narrowOf (linksAfter a (take (a .keys) w₀) i t)) (spotsIn a w)
+  pub own : getD w (a .spots + i) 0 ≡ 0
+
+zero-kept : (l : List ℕ) (k j : ℕ) → getD l j 0 ≡ 0 → getD (set l k 0) j 0 ≡ 0
+zero-kept [] k j h = h
+zero-kept (x ∷ l) zero zero h = refl
+zero-kept (x ∷ l) zero (suc j) h = h
+zero-kept (x ∷ l) (suc k) zero h = h
+zero-kept (x ∷ l) (suc k) (suc j) h = zero-kept l k j h
 
 module _ {a : Areas} {n i : ℕ} {w₀ : List ℕ} (s : AtNode a n i w₀) where
-  pub clearing-none : Clearing a n i 0 w₀ w₀
-  clearing-none = record { some = omega arith; kept = kept-all; left = rw (kids-all a n (take (a .keys) w₀) i (s .inside)) }
+  pub clearing-none : getD w₀ (a .spots + i) 0 ≡ 0 → Clearing a n i 0 w₀ w₀
+  clearing-none z = record { some = omega arith; kept = kept-all; left = rw (kids-all a n (take (a .keys) w₀) i (s .inside)); own = z }
 
   module _ {t : ℕ} {w : List ℕ} (c : Clearing a n i t w₀ w) where
-    pub clearing-link : t < linkCount a (take (a .keys) w₀) i → AtLink a n i t w
-    clearing-link h = link-kept s (c .kept) (omega arith) h
+    pub clearing-link : {from : ℕ} → t < linkCount a (take (a .keys) w₀) i → from ≡ linksAt a (take (a .keys) w₀) i → FromLink a n i t from w
+    clearing-link h e = from-kept s (c .kept) (omega arith) h e
 
-    module _ {child : ℕ} {narrows : Bool} (k : KidOf a n (take (a .keys) w) i t child narrows) (h : t < linkCount a (take (a .keys) w₀) i) where
-      here : KidOf a n (take (a .keys) w₀) i t child narrows
-      here = rw (front-kept (s .graph) (c .kept) (omega arith)) at k
+    here : {child : ℕ} {narrows : Bool} → KidOf a n (take (a .keys) w) i t child narrows → KidOf a n (take (a .keys) w₀) i t child narrows
+    here k = rw (front-kept (s .graph) (c .kept) (omega arith)) at k
 
-      pub clearing-wide : not narrows ≡ true → Clearing a n i (t + 1) w₀ w
-      clearing-wide e = record { some = omega arith; kept = c .kept; left = c .left ∙ rw (kid-wide here h e) }
+    chosen-known : {child : ℕ} (narrows : Bool) → KidOf a n (take (a .keys) w) i t child narrows → pick narrows child i < n
+    chosen-known true k = k .known
+    chosen-known false k = s .inside
 
-      pub clearing-narrow : not narrows ≡ false → Clearing a n i (t + 1) w₀ (set w (a .spots + child) 0)
+    pub clearing-inside : {child r : ℕ} {narrows : Bool} → KidOf a n (take (a .keys) w) i t child narrows → r ≡ pick narrows child i → a .spots + r < a .waiting
+    clearing-inside {narrows = b} k e = omega (arith, chosen-known b k, s .graph .tidy .nodes)
+
+    module _ (h : t < linkCount a (take (a .keys) w₀) i) where
+      -- for a link that is not narrow the node itself gets the position that it has
+      clearing-chosen : {child : ℕ} (narrows : Bool) → KidOf a n (take (a .keys) w) i t child narrows
+          → Clearing a n i (t + 1) w₀ (set w (a .spots + pick narrows child i) 0)
       unfolding cleared
-      clearing-narrow e =
+      clearing-chosen {child} true k =
           record {
             some = omega arith;
-            kept = kept-then (c .kept) (kept-set (a .spots) (a .waiting) w (a .spots + child) 0 (omega arith) (omega (arith, here .known)));
-            left = c .left ∙ rw (kid-narrow here h e, cleared, region-in (a .spots) (a .nodes) w child 0 (omega (arith, here .known)));
+            kept = kept-then (c .kept) (kept-set (a .spots) (a .waiting) w (a .spots + child) 0 (omega arith) (omega (arith, k .known)));
+            left = c .left ∙ rw (kid-narrow (here k) h refl, cleared, region-in (a .spots) (a .nodes) w child 0 (omega (arith, k .known)));
+            own = zero-kept w (a .spots + child) (a .spots + i) (c .own);
           }
+      clearing-chosen false k =
+          let same : set w (a .spots + i) 0 ≡ w = rw (c .own) at (set-getD w (a .spots + i) 0) in
+          rw same (record { some = omega arith; kept = c .kept; left = c .left ∙ rw (kid-wide (here k) h refl); own = c .own })
+
+      pub clearing-next : {child r : ℕ} {narrows : Bool} → KidOf a n (take (a .keys) w) i t child narrows → r ≡ pick narrows child i
+          → Clearing a n i (t + 1) w₀ (set w (a .spots + r) 0)
+      clearing-next {narrows = b} k e = rw e (clearing-chosen b k)
 
     pub clearing-all : linkCount a (take (a .keys) w₀) i ≤ t → ClearedLinks a n i w₀ w
     unfolding cleared

@@ -1,24 +1,28 @@
 -- The sets joined along a node's links, and along the order.
 use mathlib.Core.Path.{_≡_, refl, sym, ap, _∙_}
-use Prim.Native.Nat.{ℕ, _+_, _≤_, _<_}
-use mathlib.Core.List.{List, _∷_}
+use Prim.Native.Nat.{ℕ, zero, suc, _+_, _-_, _≤_, _<_}
+use mathlib.Core.List.{List, [], _∷_, _++_, map}
 use mathlib.Core.Bool.{Bool, true, false, not}
 use native.Mathlib.Omega.{arith}
-use lib.ListN.{length, getD, take, drop}
+use lib.ListN.{length, getD, take, drop, replicate}
+use lib.Dec.{eqb}
 use borrow.Author.Tests.{eq-eqb, ne-eqb}
+use Rattle.lists.specs.Lists.{pick}
 use Rattle.regions.specs.Region.{Kept}
 use Rattle.regions.proofs.Laws.{region-length, region-at}
 use Rattle.regions.proofs.Bounds.{ceiling-at}
 use Rattle.regions.proofs.Frame.{kept-all, kept-then, kept-less, kept-below}
+use Rattle.model_orders.specs.Labels.{merged, merge, join}
 use Rattle.model_orders.specs.Space.{narrowOf, narrowKids}
+use Rattle.model_orders.proofs.Labels.{Merged, higher, stays, mergedOr, join-joins}
 use Rattle.work.specs.Views.{orderIn, spotsIn, bossesIn}
 use Rattle.work.specs.declared.Areas.{Areas}
-use Rattle.order_graph.specs.Graph.{graphOn, linksAfter, linkCount, AtLink}
-use Rattle.order_graph.proofs.Links.{front-kept, link-kept}
+use Rattle.order_graph.specs.Graph.{graphOn, linksAt, linksAfter, linkCount, FromLink}
+use Rattle.order_graph.proofs.Links.{front-kept, from-kept}
 use Rattle.order_merge.specs.Bosses.{roots, Falls}
-use Rattle.order_spaces.specs.Spaces.{tied, tiedAll, KidOf, Tying, JoinedAt, TiedLinks, TiedAlong}
+use Rattle.order_spaces.specs.Spaces.{tied, tiedAll, RunOf, Tying, JoinedAt, TiedLinks, TiedAlong}
 use Rattle.order_spaces.proofs.Frames.{ordered-kept, order-kept, node-in, order-rest, order-done}
-use Rattle.order_spaces.proofs.Kids.{kids-all, kids-none, kid-narrow, kid-wide}
+use Rattle.order_spaces.proofs.Kids.{kids-all, kids-none, run-wide, run-narrow}
 
 -- ---- what is asked stays while bosses change
 
@@ -36,6 +40,41 @@ spot-low {a} {x = x} {w = w} s h =
     let long = region-length (a .spots) (a .nodes) w (omega arith) in
     omega (arith, s .spots, ceiling-at (spotsIn a w) x (omega (arith, long, o .graph .tidy .nodes)))
 
+-- ---- a child that several links in a row lead to is joined once
+
+merged-own : (x l : ℕ) → merged x x l ≡ l
+merged-own x l = go (mergedOr x x l)
+  where
+    go : Merged x x l → merged x x l ≡ l
+    go (higher e q) = q ∙ omega arith
+    go (stays _ q) = q
+
+merge-own : (x : ℕ) (s : List ℕ) → merge x x s ≡ s
+unfolding merge
+merge-own x [] = refl
+merge-own x (l ∷ s) = ap (λ (k : ℕ). k ∷ map (merged x x) s) (merged-own x l) ∙ ap (λ (m : List ℕ). l ∷ m) (merge-own x s)
+
+join-again : (x y : ℕ) (s : List ℕ) → join x y (join x y s) ≡ join x y s
+join-again x y s =
+    let one : List ℕ = join x y s in
+    ap (λ (k : ℕ). merge k (getD one y 0) one) (join-joins x y s) ∙ merge-own (getD one y 0) one
+
+module _ (s : List ℕ) (x c : ℕ) (cs : List ℕ) where
+  tied-near : getD s c 0 ≡ 0 → (k : ℕ) (l : List ℕ) → tied s x (replicate k c ++ cs) l ≡ tied s x cs l
+  unfolding tied
+  tied-near z zero l = refl
+  tied-near z (suc k) l =
+      let none : pick (eqb (getD s c 0) 0) l (join x (getD s c 0) l) ≡ l = rw (eq-eqb (getD s c 0) 0 z) in
+      ap (tied s x (replicate k c ++ cs)) none ∙ tied-near z k l
+
+  tied-once : (getD s c 0 ≡ 0 → ⊥) → (k : ℕ) (l : List ℕ) → tied s x (replicate (suc k) c ++ cs) l ≡ tied s x cs (join x (getD s c 0) l)
+  unfolding tied
+  tied-once d zero l = rw (ne-eqb (getD s c 0) 0 d)
+  tied-once d (suc k) l =
+      let one : List ℕ = join x (getD s c 0) l in
+      let joined : pick (eqb (getD s c 0) 0) l one ≡ one = rw (ne-eqb (getD s c 0) 0 d) in
+      ap (tied s x (replicate (suc k) c ++ cs)) joined ∙ tied-once d k one ∙ ap (tied s x cs) (join-again x (getD s c 0) l)
+
 -- ---- a node's links: t of them are done
 
 pub record Turning (a : Areas) (n r i x t : ℕ) (w₀ w : List ℕ) : Type 0 where
@@ -51,12 +90,15 @@ module _ {a : Areas} {n r i x : ℕ} {w₀ : List ℕ} (h : i < n) (s : Tying a 
   turning-none = record { some = omega arith; kept = kept-all; falls = s .falls; left = rw (kids-all a n (take (a .keys) w₀) i h) }
 
   module _ {t : ℕ} {w : List ℕ} (c : Turning a n r i x t w₀ w) where
-    pub turning-link : t < linkCount a (take (a .keys) w₀) i → AtLink a n i t w
-    turning-link l = link-kept (record { graph = s .ordered .graph; inside = h }) (c .kept) (omega arith) l
+    pub turning-link : {from : ℕ} → t < linkCount a (take (a .keys) w₀) i → from ≡ linksAt a (take (a .keys) w₀) i → FromLink a n i t from w
+    turning-link l e = from-kept (record { graph = s .ordered .graph; inside = h }) (c .kept) (omega arith) l e
 
-    module _ {child : ℕ} {narrows : Bool} (k : KidOf a n (take (a .keys) w) i t child narrows) (l : t < linkCount a (take (a .keys) w₀) i) where
-      here : KidOf a n (take (a .keys) w₀) i t child narrows
+    module _ {end child : ℕ} {narrows : Bool} (k : RunOf a n (take (a .keys) w) i t end child narrows) where
+      here : RunOf a n (take (a .keys) w₀) i t end child narrows
       here = rw (front-kept (s .ordered .graph) (c .kept) (omega arith)) at k
+
+      pub turning-more : (t < end) × (end ≤ linkCount a (take (a .keys) w₀) i)
+      turning-more = (here .more, here .most)
 
       abbrev spot : ℕ
       spot = getD w (a .spots + child) 0
@@ -66,34 +108,36 @@ module _ {a : Areas} {n r i x : ℕ} {w₀ : List ℕ} (h : i < n) (s : Tying a 
           region-at (a .spots) (a .nodes) w child (omega (arith, here .known))
           ∙ ap (λ (m : List ℕ). getD m child 0) (kept-below (c .kept) (a .spots) (a .nodes) (omega arith))
 
-      pub turning-wide : not narrows ≡ true → Turning a n r i x (t + 1) w₀ w
-      turning-wide e = record { some = omega arith; kept = c .kept; falls = c .falls; left = c .left ∙ rw (kid-wide here l e) }
+      pub turning-inside : a .spots + child < a .waiting
+      turning-inside = omega (arith, here .known, s .ordered .graph .tidy .nodes)
+
+      pub turning-wide : not narrows ≡ true → Turning a n r i x end w₀ w
+      turning-wide e = record { some = here .most; kept = c .kept; falls = c .falls; left = c .left ∙ rw (here .kids, run-wide here e) }
 
       -- a child in space 0 joins nothing
-      pub turning-near : not narrows ≡ false → spot ≡ 0 → Turning a n r i x (t + 1) w₀ w
-      unfolding tied
-      turning-near e z =
+      pub turning-near : spot ≡ 0 → Turning a n r i x end w₀ w
+      turning-near z =
           record {
-            some = omega arith;
+            some = here .most;
             kept = c .kept;
             falls = c .falls;
-            left = c .left ∙ rw (kid-narrow here l e, tied, eq-eqb (getD (spotsIn a w₀) child 0) 0 (sym spot-is ∙ z));
+            left = c .left ∙ rw (here .kids) (tied-near (spotsIn a w₀) x child _ (sym spot-is ∙ z) (here .times) _);
           }
 
       pub turning-asks : x < r → (x < r) × (spot < r) × (a .bosses + r ≤ length w) × Falls (bossesIn a r w)
       turning-asks b =
           (b, omega (arith, spot-is, spot-low s (here .known)), omega (arith, s .ordered .few, s .ordered .graph .long, c .kept .long), c .falls)
 
-      pub turning-join : {w′ : List ℕ} → not narrows ≡ false → (spot ≡ 0 → ⊥) → JoinedAt (a .bosses) r x spot w w′ → Turning a n r i x (t + 1) w₀ w′
-      unfolding tied
+      pub turning-join : {w′ : List ℕ} → not narrows ≡ false → (spot ≡ 0 → ⊥) → JoinedAt (a .bosses) r x spot w w′ → Turning a n r i x end w₀ w′
       turning-join e d j =
+          let often : here .times ≡ suc (here .times - 1) = omega (arith, run-narrow here e) in
           record {
-            some = omega arith;
+            some = here .most;
             kept = kept-then (c .kept) (kept-less (j .kept) (a .bosses) (a .order) (omega arith) (omega (arith, s .ordered .few)));
             falls = j .falls;
             left =
                 c .left
-                ∙ rw (kid-narrow here l e, tied, ne-eqb (getD (spotsIn a w₀) child 0) 0 (λ z. d (spot-is ∙ z)), ← spot-is, j .one);
+                ∙ rw (here .kids, often, tied-once (spotsIn a w₀) x child _ (λ z. d (spot-is ∙ z)) (here .times - 1) (roots (bossesIn a r w)), ← spot-is, j .one);
           }
 
     pub turning-all : linkCount a (take (a .keys) w₀) i ≤ t → TiedLinks a n r i x w₀ w

@@ -2,19 +2,19 @@
 -- of an order's areas are free: each node's position, and the boss of each position.
 use Prim.Native.Nat.{ℕ, _+_, _≤_, _<_}
 use mathlib.Core.Path.{_≡_}
-use mathlib.Core.List.{List, [], _∷_, map}
+use mathlib.Core.List.{List, [], _∷_, _++_, map}
 use mathlib.Core.Bool.{Bool}
 use lib.ListN.{getD, set, replicate}
-use lib.Dec.{eqb}
+use lib.Dec.{eqb, ltb}
 use Rattle.lists.specs.Lists.{pick}
 use Rattle.regions.specs.Region.{region, ceiling, Kept}
 use Rattle.model_orders.specs.Bag.{count}
 use Rattle.model_orders.specs.Graph.{Graph, Once}
 use Rattle.model_orders.specs.Labels.{join, numbers}
-use Rattle.model_orders.specs.Space.{narrow, narrowKids, spaceOf, Sorted}
+use Rattle.model_orders.specs.Space.{narrow, narrowOf, narrowKids, spaceOf, Sorted}
 use Rattle.work.specs.Views.{orderIn, spotsIn, bossesIn, spacesIn}
 use Rattle.work.specs.declared.Areas.{Areas}
-use Rattle.order_graph.specs.Graph.{linkOf, graphOn, Stands}
+use Rattle.order_graph.specs.Graph.{linkOf, linkCount, linksAfter, graphOn, Stands}
 use Rattle.order_merge.specs.Bosses.{roots, Falls}
 
 -- ---- positions
@@ -59,6 +59,15 @@ pub record KidOf (a : Areas) (n : ℕ) (f : List ℕ) (i t child : ℕ) (narrows
   pub child-is : child ≡ linkOf a f i t .child
   pub known : child < n
   pub narrow-is : narrows ≡ narrow (linkOf a f i t)
+
+-- the links from number t up to `end` lead to one child, and so many of them are narrow: some, or none
+pub record RunOf (a : Areas) (n : ℕ) (f : List ℕ) (i t end child : ℕ) (narrows : Bool) : Type 0 where
+  pub more : t < end
+  pub most : end ≤ linkCount a f i
+  pub known : child < n
+  pub times : ℕ
+  pub some : narrows ≡ ltb 0 times
+  pub kids : narrowOf (linksAfter a f i t) ≡ replicate times child ++ narrowOf (linksAfter a f i end)
 
 -- ---- what the steps ask
 

@@ -1,6 +1,7 @@
 // The sets outside space 0, by bosses of positions: at first each position is a set of its own, and all of space 0 is one.
-use crate::kid::kid_at;
+use crate::kid::run_from;
 use order_graph::link_count;
+use order_graph::links_at;
 use order_merge::join;
 use work::Areas;
 ghost use Prim.Native.Nat.{_+_, _≤_, _<_};
@@ -34,20 +35,21 @@ fn join_at(work: &mut [u64], b: usize, r: usize, x: usize, y: usize)
     join(&mut work[b..e], x, y);
 }
 
-// Joins node i, at position x, with its children by narrow links that are outside space 0.
+// Joins node i, at position x, with its children by narrow links that are outside space 0, and once with a child that several links in a row lead to.
 fn join_links(work: &mut [u64], a: Areas, n: usize, r: usize, i: usize, x: usize)
     requires { ⌜ (i < n) × (x < r) × Tying a n r (now work) ⌝ }
     ensures { λ _. ⌜ TiedLinks a n r i x (now (work .entry)) (now (work .exit)) ⌝ }
 {
     let count = link_count(work, a, n, i);
+    let from = links_at(work, a, n, i);
     let mut t = 0;
     while t < count {
-        let kid = kid_at(work, a, n, i, t);
-        t += 1;
-        if !kid.narrow {
+        let run = run_from(work, a, n, i, t, from);
+        t = run.end;
+        if !run.narrow {
             continue;
         }
-        let k = a.spots + kid.child;
+        let k = a.spots + run.child;
         let y = work[k] as usize;
         if y == 0 {
             continue;

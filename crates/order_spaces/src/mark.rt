@@ -1,8 +1,13 @@
 // Space 0: each node's position in the order, and position 0, the root's, for all that narrow links alone lead to from the root.
-use crate::kid::kid_at;
+use crate::kid::kid_from;
 use order_graph::link_count;
+use order_graph::links_at;
 use regions::fill;
 use work::Areas;
+ghost use mathlib.Core.Path.{_≡_};
+ghost use Prim.Native.Nat.{_+_};
+ghost use lib.ListN.{getD};
+ghost use Rattle.lists.specs.Lists.{pick};
 ghost use Rattle.order_graph.specs.Graph.{AtNode};
 ghost use Rattle.order_spaces.specs.Spaces.{Ordered, SpotsSet, SpottedAlong, ClearedLinks, ClearedAlong, Marked};
 
@@ -30,21 +35,27 @@ fn set_spots(work: &mut [u64], a: Areas, n: usize, r: usize)
     spot_along(work, a, n, r);
 }
 
-// The children of node i by narrow links get position 0.
+// x where the test holds, else y.
+fn chosen(t: bool, x: usize, y: usize) -> usize
+    ensures { λ r. ⌜ r ≡ pick t x y ⌝ }
+{
+    if t { x } else { y }
+}
+
+// The children of node i, which is at position 0, by narrow links get position 0. For a link that is not narrow node i gets it again: which links are narrow no processor can
+// foretell.
 fn clear_links(work: &mut [u64], a: Areas, n: usize, i: usize)
-    requires { ⌜ AtNode a n i (now work) ⌝ }
+    requires { ⌜ AtNode a n i (now work) × (getD (now work) (a .spots + i) 0 ≡ 0) ⌝ }
     ensures { λ _. ⌜ ClearedLinks a n i (now (work .entry)) (now (work .exit)) ⌝ }
 {
     let count = link_count(work, a, n, i);
+    let from = links_at(work, a, n, i);
     let mut t = 0;
     while t < count {
-        let kid = kid_at(work, a, n, i, t);
-        t += 1;
-        if !kid.narrow {
-            continue;
-        }
-        let k = a.spots + kid.child;
+        let kid = kid_from(work, a, n, i, t, from);
+        let k = a.spots + chosen(kid.narrow, kid.child, i);
         work[k] = 0;
+        t += 1;
     }
 }
 

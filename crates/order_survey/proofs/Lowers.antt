@@ -39,6 +39,9 @@ module _ {a : Areas} {n i d : ℕ} {w₀ : List ℕ} (s : Lowering a n i d w₀)
     front : take (a .keys) w ≡ take (a .keys) w₀
     front = front-kept (s .node .graph) (f .kept) (omega arith)
 
+    pub lowers-inside : {x y : ℕ} → EdgeOf a n (take (a .keys) w) i t x y → a .distances + x < length w
+    lowers-inside e = omega arith
+
     pub lowers-next : {x y v : ℕ} → EdgeOf a n (take (a .keys) w) i t x y → v ≡ min (getD w (a .distances + x) 0) (d + y)
         → t < linkCount a (take (a .keys) w₀) i → Lowers a n i d (t + 1) w₀ (set w (a .distances + x) v)
     unfolding relax

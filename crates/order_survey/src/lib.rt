@@ -1,8 +1,9 @@
 // What every order of a root starts from, found once: the line of the nodes that the root reaches, parents before their children; how many fields
 // of those lead to each node; and the length of the table. Then the distances, for the orders that go by them.
-use order_graph::edge_at;
-use order_graph::field_at;
+use order_graph::edge_from;
+use order_graph::field_from;
 use order_graph::link_count;
+use order_graph::links_at;
 use regions::fill;
 use work::Areas;
 ghost use mathlib.Core.Path.{_≡_};
@@ -24,9 +25,10 @@ pub fn count_links(work: &mut [u64], a: Areas, n: usize, i: usize)
     ensures { λ _. ⌜ CountedAll a n i (now (work .entry)) (now (work .exit)) ⌝ }
 {
     let count = link_count(work, a, n, i);
+    let from = links_at(work, a, n, i);
     let mut t = 0;
     while t < count {
-        let f = field_at(work, a, n, i, t);
+        let f = field_from(work, a, n, i, t, from);
         let j = a.incoming + f.child;
         work[j] = work[j] + 1;
         t += 1;
@@ -71,9 +73,10 @@ fn lower_links(work: &mut [u64], a: Areas, n: usize, i: usize, d: u64)
     ensures { λ _. ⌜ Lowered a n i d (now (work .entry)) (now (work .exit)) ⌝ }
 {
     let count = link_count(work, a, n, i);
+    let from = links_at(work, a, n, i);
     let mut t = 0;
     while t < count {
-        let e = edge_at(work, a, n, i, t);
+        let e = edge_from(work, a, n, i, t, from);
         let j = a.distances + e.child;
         work[j] = least(work[j], d + e.weight);
         t += 1;

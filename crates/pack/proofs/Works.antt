@@ -51,7 +51,7 @@ use Rattle.pack_copy.specs.Copy.{AreasFor, Standing, Copyable, Copied}
 use Rattle.pack_copy.proofs.ClosedObjects.{sound-acyclic}
 use Rattle.pack_copy.proofs.CopiedGraph.{graph-copied}
 use Rattle.pack_copy.proofs.Standing.{standing-kept}
-use Rattle.pack_write.specs.Write.{bytesOf, NodeFits, Writing, tableFor}
+use Rattle.pack_write.specs.Write.{bytesOf, NodeFits, tableFor}
 use Rattle.pack.specs.Packable.{Packable, Fitting, Written, Answered}
 
 -- ---- what a look tells of the outcome
@@ -181,7 +181,7 @@ module _ {b w : List ℕ} {s : State} {t : Tally} {a : Areas} {root : ℕ} {m : 
                   once = moved (λ _ l. Once l) (λ i. omega (arith, whole .once i, v .once i));
                   closed = moved Closed (λ i j h k. rw (whole .once j) (v .closed i j (rw (whole .once i) at h) k));
                   places = moved (λ x l. (i : ℕ) → 0 < count i l → getD (placesIn a m₃) i 0 ≡ placeOf x l i) (p .places);
-                  fits = moved (λ x l. total (x .size) l ≤ r .length) (omega (arith, done .length-is, total-bag (all .grown .graph .size) order (all .grown .line) (whole .once)));
+                  size-is = moved (λ x l. r .length ≡ total (x .size) l) (omega (arith, done .length-is, total-bag (all .grown .graph .size) order (all .grown .line) (whole .once)));
                 };
               }
 
@@ -216,14 +216,6 @@ module _ {b w : List ℕ} {s : State} {t : Tally} {a : Areas} {root : ℕ} {m : 
               go (no h) = answer (u .short (omega arith)) ∙ rw (c .tally) (short-told b w all (a .copies) out m order-is (omega (arith, done .length-is)))
 
 -- ---- a table written where there is room
-
--- more room than the table has bytes
-more-room : {b w m : List ℕ} {s : State} {a : Areas} {nodes r n room : ℕ} → n ≤ room → Writing b w s a nodes m r n → Writing b w s a nodes m r room
-more-room h c =
-    record { read = c .read; graph = c .graph; owned = c .owned; each = c .each; ids = c .ids; once = c .once; closed = c .closed; places = c .places; fits = omega (arith, c .fits) }
-
-pub fitting-room : {b w m : List ℕ} {s : State} {a : Areas} {r : Arranged} {room : ℕ} → Fitting b w s a r m → r .length ≤ room → Writing b w s a (r .nodes) m (r .placed) room
-fitting-room f h = more-room h (f .writing)
 
 module _ {b w m : List ℕ} {s : State} {t : Tally} {a : Areas} {r : Arranged} {out : List ℕ} where
   pub written-short : length out < r .length → Written b w s t a r (Refused Refusal.OutputShort t) out out m

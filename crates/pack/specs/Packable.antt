@@ -30,7 +30,7 @@ pub record Packable (b w : List ℕ) (s : State) (t : Tally) (a : Areas) (root :
   pub known : root < s .closed
   pub long : a .end ≤ length m
 
--- an arrangement in which every offset fits, as r tells it: its nodes can be written into as many bytes as it has
+-- an arrangement in which every offset fits, as r tells it: its nodes can be written, and are as many bytes as it has
 pub record Fitting (b w : List ℕ) (s : State) (a : Areas) (r : Arranged) (m : List ℕ) : Type 0 where
   pub base : s .closed ≤ r .nodes
   pub writing : Writing b w s a (r .nodes) m (r .placed) (r .length)

@@ -46,7 +46,7 @@ fn write_fitting(
     if out.len() < size {
         return Packing::Refused(Refusal::OutputShort, t);
     }
-    write_table(out, store, records, s, a, r.nodes, work, r.placed);
+    write_table(out, store, records, s, a, r.nodes, work, r.placed, size);
     let made = PackedTable {
         length: size,
         copies: r.nodes - s.closed,

@@ -25,8 +25,8 @@ pub record NodeFits (b w : List ℕ) (a : Areas) (n nodes : ℕ) (m : List ℕ) 
   pub sized : length (bytesOf b w a n m i) ≡ graphOn a nodes m .size i
   pub fields : FieldsIn 0 (graphOn a nodes m .size i) (graphOn a nodes m .links i)
 
--- what writing r nodes into `room` bytes asks
-pub record Writing (b w : List ℕ) (s : State) (a : Areas) (nodes : ℕ) (m : List ℕ) (r room : ℕ) : Type 0 where
+-- what writing r nodes, of `size` bytes in all, asks
+pub record Writing (b w : List ℕ) (s : State) (a : Areas) (nodes : ℕ) (m : List ℕ) (r size : ℕ) : Type 0 where
   pub read : Read b w s
   pub graph : Stands a nodes m
   pub owned : Owned a (s .closed) nodes m
@@ -35,7 +35,7 @@ pub record Writing (b w : List ℕ) (s : State) (a : Areas) (nodes : ℕ) (m : L
   pub once : Once (orderIn a r m)
   pub closed : Closed (graphOn a nodes m) (orderIn a r m)
   pub places : (i : ℕ) → 0 < count i (orderIn a r m) → getD (placesIn a m) i 0 ≡ placeOf (graphOn a nodes m) (orderIn a r m) i
-  pub fits : total (graphOn a nodes m .size) (orderIn a r m) ≤ room
+  pub size-is : size ≡ total (graphOn a nodes m .size) (orderIn a r m)
 
 -- the table of r placed nodes
 abbrev pub tableFor : List ℕ → List ℕ → Areas → ℕ → ℕ → ℕ → List ℕ → List ℕ

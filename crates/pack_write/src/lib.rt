@@ -1,14 +1,16 @@
 // Table bytes from the order and the places in the work memory.
 use layout::span::closed_span;
 use layout::state::State;
+use memory::bytes::WIDE;
 use order_fit::node_at;
 use order_fit::offset_at;
-use order_graph::field_at;
+use order_graph::field_from;
 use order_graph::link_count;
+use order_graph::links_at;
 use order_graph::origin_of;
 use work::Areas;
 ghost use mathlib.Core.Path.{_≡_};
-ghost use Prim.Native.Nat.{_≤_};
+ghost use Prim.Native.Nat.{_-_, _≤_};
 ghost use lib.ListN.{length};
 ghost use Rattle.lists.specs.Lists.{over};
 ghost use Rattle.model_orders.specs.Table.{filled, FieldsIn};
@@ -23,9 +25,10 @@ fn write_fields(part: &mut [u8], work: &[u64], a: Areas, n: usize, i: usize)
     ensures { λ _. ⌜ now (part .exit) ≡ filled (offsetBy (placesIn a (now (work .entry))) i) (graphOn a n (now (work .entry)) .links i) (now (part .entry)) ⌝ }
 {
     let count = link_count(work, a, n, i);
+    let from = links_at(work, a, n, i);
     let mut t = 0;
     while t < count {
-        let f = field_at(work, a, n, i, t);
+        let f = field_from(work, a, n, i, t, from);
         let offset = offset_at(work, a, n, i, f);
         big_endian::write(part, f.at, f.width, offset);
         t += 1;
@@ -41,7 +44,25 @@ fn write_object(part: &mut [u8], bytes: &[u8], work: &[u64], a: Areas, n: usize,
     write_fields(part, work, a, n, i);
 }
 
-// The placed nodes, each lent its part of the output from its place on; a copy has the bytes of its original.
+// Where the bytes end that are copied for an object from `from` up to `to`, of a store of so many: behind it, where there is room for as many bytes as are copied most quickly.
+fn wide_end(from: usize, to: usize, stored: usize, room: usize) -> usize
+    requires { ⌜ (from ≤ to) × (to ≤ stored) × (to - from ≤ room) ⌝ }
+    ensures { λ r. ⌜ (to ≤ r) × (r ≤ stored) × (r - from ≤ room) ⌝ }
+{
+    if WIDE < to - from {
+        return to;
+    }
+    if stored - from < WIDE {
+        return to;
+    }
+    if room < WIDE {
+        return to;
+    }
+    from + WIDE
+}
+
+// The placed nodes, each lent its part of the output from its place on; a copy has the bytes of its original. The table is `size` bytes long: what is copied behind a node's own bytes is
+// overwritten by the nodes behind it.
 pub fn write_table(
     out: &mut [u8],
     store: &[u8],
@@ -51,8 +72,9 @@ pub fn write_table(
     nodes: usize,
     work: &[u64],
     placed: usize,
+    size: usize,
 )
-    requires { ⌜ Writing (now store) (now records) s a nodes (now work) placed (length (now out)) ⌝ }
+    requires { ⌜ Writing (now store) (now records) s a nodes (now work) placed size × (size ≤ length (now out)) ⌝ }
     ensures { λ _. ⌜ now (out .exit) ≡ over 0 (tableFor (now (store .entry)) (now (records .entry)) a (s .closed) nodes placed (now (work .entry))) (now (out .entry)) ⌝ }
 {
     let n = s.closed;
@@ -65,7 +87,7 @@ pub fn write_table(
         let id = origin_of(work, a, n, nodes, i);
         let o = closed_span(records, p, id.0 as usize);
         let from = o.from;
-        let to = o.to;
+        let to = wide_end(from, o.to, store.len(), size - place);
         write_object(&mut out[place..], &store[from..to], work, a, nodes, i);
         t += 1;
     }

@@ -6,27 +6,30 @@ use lib.ListN.{take}
 use borrow.Author.Needs.{needs}
 use Rattle.order_survey.proofs.Counts.{Counts, counts-none, counts-room, counts-next, counts-all}
 use Rattle.order_graph.specs.Graph.{linkCount}
-use Rattle.order_graph.proofs.Links.{link-kept}
+use Rattle.order_graph.proofs.Links.{from-kept}
 use Rattle.order_survey.proofs.count_links.Statement.{statement}
 use Rattle.order_survey.proofs.count_links.Tie as tie
 
 abbrev Inv-loop : tie.InvT-loop
-Inv-loop work₀ a n i count t₀ work t = Counts a n i t work₀ work × (count ≡ linkCount a (take (a .keys) work₀) i)
+Inv-loop work₀ a n i count from t₀ work t = Counts a n i t work₀ work × (count ≡ linkCount a (take (a .keys) work₀) i)
 
 abbrev μ-loop : tie.MeasureT-loop
-μ-loop work₀ a n i count t₀ work t = count - t
+μ-loop work₀ a n i count from t₀ work t = count - t
 
 link-count-requires : tie.Need-link-count-requires Inv-loop μ-loop
 link-count-requires c κs = search needs
 
-loop-holds : tie.Need-loop-holds Inv-loop μ-loop
-loop-holds c = (counts-none (c .before .before .before .pre), c .link-count .ensures)
+links-at-requires : tie.Need-links-at-requires Inv-loop μ-loop
+links-at-requires c κs = search needs
 
-field-at-requires : tie.Need-field-at-requires Inv-loop μ-loop
-field-at-requires c κs =
-    let pre = c .before .before .before .before .before .before .pre in
+loop-holds : tie.Need-loop-holds Inv-loop μ-loop
+loop-holds c = (counts-none (c .before .before .before .before .before .pre), c .before .before .link-count .ensures)
+
+field-from-requires : tie.Need-field-from-requires Inv-loop μ-loop
+field-from-requires c κs =
+    let pre = c .before .before .before .before .before .before .before .before .pre in
     let inv = c .before .before .loop .inv in
-    link-kept (pre .node) (inv .0 .kept) (omega arith) (omega arith)
+    from-kept (pre .node) (inv .0 .kept) (omega arith) (omega arith) (c .before .before .before .links-at .ensures)
 
 add-j : tie.Need-add-j Inv-loop μ-loop
 add-j c = search needs
@@ -39,10 +42,10 @@ slice-read-work c = search needs
 
 add-work : tie.Need-add-work Inv-loop μ-loop
 add-work c =
-    let pre = c .before .before .before .before .before .before .before .before .before .before .pre in
+    let pre = c .before .before .before .before .before .before .before .before .before .before .before .before .pre in
     let inv = c .before .before .before .before .before .before .loop .inv in
-    let field-at = c .before .before .before .field-at .ensures in
-    omega (arith, counts-room pre (inv .0) _ (field-at .known) (omega arith))
+    let field-from = c .before .before .before .field-from .ensures in
+    omega (arith, counts-room pre (inv .0) _ (field-from .known) (omega arith))
 
 mul-work-2 : tie.Need-mul-work-2 Inv-loop μ-loop
 mul-work-2 c = search needs
@@ -58,16 +61,16 @@ loop-less c = search needs
 
 loop-again : tie.Need-loop-again Inv-loop μ-loop
 loop-again c =
-    let pre = c .before .before .before .before .before .before .before .before .before .before .pre in
+    let pre = c .before .before .before .before .before .before .before .before .before .before .before .before .pre in
     let inv = c .before .before .before .before .before .before .loop .inv in
-    let field-at = c .before .before .before .field-at .ensures in
-    (counts-next pre (inv .0) field-at (omega arith), inv .1)
+    let field-from = c .before .before .before .field-from .ensures in
+    (counts-next pre (inv .0) field-from (omega arith), inv .1)
 
 same-length : tie.Need-same-length Inv-loop μ-loop
 same-length c = search needs
 
 returns : tie.Need-returns Inv-loop μ-loop
-returns c = counts-all (c .before .before .before .before .before .pre) (c .before .loop .inv .0) (omega arith)
+returns c = counts-all (c .before .before .before .before .before .before .before .pre) (c .before .loop .inv .0) (omega arith)
 
 pub count-links-spec : {M : Type 1} → statement M
 count-links-spec =
@@ -76,8 +79,9 @@ count-links-spec =
     Inv-loop
     μ-loop
     link-count-requires
+    links-at-requires
     loop-holds
-    field-at-requires
+    field-from-requires
     add-j
     mul-work
     slice-read-work

@@ -4,29 +4,32 @@ use Prim.Native.Nat.{_-_}
 use native.Mathlib.Omega.{arith}
 use lib.ListN.{take}
 use borrow.Author.Needs.{needs}
-use Rattle.order_survey.proofs.Lowers.{Lowers, lowers-none, lowers-next, lowers-all}
+use Rattle.order_survey.proofs.Lowers.{Lowers, lowers-none, lowers-inside, lowers-next, lowers-all}
 use Rattle.order_graph.specs.Graph.{linkCount}
-use Rattle.order_graph.proofs.Links.{link-kept}
+use Rattle.order_graph.proofs.Links.{from-kept}
 use Rattle.order_survey.proofs.lower_links.Statement.{statement}
 use Rattle.order_survey.proofs.lower_links.Tie as tie
 
 abbrev Inv-loop : tie.InvT-loop
-Inv-loop work₀ a n i d count t₀ work t = Lowers a n i d t work₀ work × (count ≡ linkCount a (take (a .keys) work₀) i)
+Inv-loop work₀ a n i d count from t₀ work t = Lowers a n i d t work₀ work × (count ≡ linkCount a (take (a .keys) work₀) i)
 
 abbrev μ-loop : tie.MeasureT-loop
-μ-loop work₀ a n i d count t₀ work t = count - t
+μ-loop work₀ a n i d count from t₀ work t = count - t
 
 link-count-requires : tie.Need-link-count-requires Inv-loop μ-loop
 link-count-requires c κs = search needs
 
-loop-holds : tie.Need-loop-holds Inv-loop μ-loop
-loop-holds c = (lowers-none (c .before .before .before .pre), c .link-count .ensures)
+links-at-requires : tie.Need-links-at-requires Inv-loop μ-loop
+links-at-requires c κs = search needs
 
-edge-at-requires : tie.Need-edge-at-requires Inv-loop μ-loop
-edge-at-requires c κs =
-    let pre = c .before .before .before .before .before .before .pre in
+loop-holds : tie.Need-loop-holds Inv-loop μ-loop
+loop-holds c = (lowers-none (c .before .before .before .before .before .pre), c .before .before .link-count .ensures)
+
+edge-from-requires : tie.Need-edge-from-requires Inv-loop μ-loop
+edge-from-requires c κs =
+    let pre = c .before .before .before .before .before .before .before .before .pre in
     let inv = c .before .before .loop .inv in
-    link-kept (pre .node) (inv .0 .kept) (omega arith) (omega arith)
+    from-kept (pre .node) (inv .0 .kept) (omega arith) (omega arith) (c .before .before .before .links-at .ensures)
 
 add-j : tie.Need-add-j Inv-loop μ-loop
 add-j c = search needs
@@ -44,10 +47,12 @@ least-requires : tie.Need-least-requires Inv-loop μ-loop
 least-requires c κs = search needs
 
 mul-work : tie.Need-mul-work Inv-loop μ-loop
-mul-work c = search needs
+mul-work c =
+    let inside = lowers-inside (c .before .before .before .before .before .before .before .before .before .before .before .before .before .before .pre) (c .before .before .before .before .before .before .before .before .loop .inv .0) (c .before .before .before .before .before .edge-from .ensures) in
+    omega (arith, inside, c .before .before .before .before .before .before .before .before .before .before .before .before .before .before .good .0 .1)
 
 slice-write-work : tie.Need-slice-write-work Inv-loop μ-loop
-slice-write-work c = search needs
+slice-write-work c = lowers-inside (c .before .before .before .before .before .before .before .before .before .before .before .before .before .before .pre) (c .before .before .before .before .before .before .before .before .loop .inv .0) (c .before .before .before .before .before .edge-from .ensures)
 
 add-t : tie.Need-add-t Inv-loop μ-loop
 add-t c = search needs
@@ -57,17 +62,17 @@ loop-less c = search needs
 
 loop-again : tie.Need-loop-again Inv-loop μ-loop
 loop-again c =
-    let pre = c .before .before .before .before .before .before .before .before .before .before .before .before .pre in
+    let pre = c .before .before .before .before .before .before .before .before .before .before .before .before .before .before .pre in
     let inv = c .before .before .before .before .before .before .before .before .loop .inv in
-    let edge-at = c .before .before .before .before .before .edge-at .ensures in
+    let edge-from = c .before .before .before .before .before .edge-from .ensures in
     let least = c .least .ensures in
-    (lowers-next pre (inv .0) edge-at least (omega arith), inv .1)
+    (lowers-next pre (inv .0) edge-from least (omega arith), inv .1)
 
 same-length : tie.Need-same-length Inv-loop μ-loop
 same-length c = search needs
 
 returns : tie.Need-returns Inv-loop μ-loop
-returns c = lowers-all (c .before .before .before .before .before .pre) (c .before .loop .inv .0) (omega arith)
+returns c = lowers-all (c .before .before .before .before .before .before .before .pre) (c .before .loop .inv .0) (omega arith)
 
 pub lower-links-spec : {M : Type 1} → statement M
 lower-links-spec =
@@ -76,8 +81,9 @@ lower-links-spec =
     Inv-loop
     μ-loop
     link-count-requires
+    links-at-requires
     loop-holds
-    edge-at-requires
+    edge-from-requires
     add-j
     mul-least
     slice-read-least

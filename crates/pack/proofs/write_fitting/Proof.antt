@@ -1,6 +1,6 @@
 -- `write_fitting` meets its contract: 10, or the table.
 use mathlib.Core.Path.{refl}
-use Rattle.pack.proofs.Works.{fitting-room, written-short, written-room}
+use Rattle.pack.proofs.Works.{written-short, written-room}
 use borrow.Author.Needs.{needs}
 use Rattle.pack.proofs.write_fitting.Statement.{statement}
 use Rattle.pack.proofs.write_fitting.Tie as tie
@@ -9,7 +9,7 @@ returns : tie.Need-returns
 returns c = written-short (c .if1 .taken)
 
 write-table-requires : tie.Need-write-table-requires
-write-table-requires c κs = fitting-room (c .before .before .before .before .before .before .pre) (c .before .if1 .left)
+write-table-requires c κs = (c .before .before .before .before .before .before .pre .writing, c .before .if1 .left)
 
 sub-t11 : tie.Need-sub-t11
 sub-t11 c = c .before .before .before .before .before .before .before .before .before .before .before .pre .base

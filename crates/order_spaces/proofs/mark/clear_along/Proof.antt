@@ -58,7 +58,7 @@ clear-links-requires : tie.Need-clear-links-requires Inv-loop μ-loop
 clear-links-requires c κs =
     let pre = c .before .before .before .before .before .before .before .before .before .pre in
     let inv = c .before .before .before .before .before .before .before .loop .inv in
-    passing-asks pre inv (omega arith)
+    (passing-asks pre inv (omega arith), c .before .if1 .left)
 
 loop-less-2 : tie.Need-loop-less-2 Inv-loop μ-loop
 loop-less-2 c = search needs
