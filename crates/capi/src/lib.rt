@@ -1,4 +1,4 @@
-// The eight calls, many of them in one, the read of a GSUB table, frames and the needs for callers in C, as include/scoterlime.h declares them.
+// The eight calls, many of them in one, the read of a GSUB table, its promotion, frames and the needs for callers in C, as include/scoterlime.h declares them.
 //
 // Each is one proved call and its answer turned into numbers. None asks anything of the lent memory's contents; that a pointer is good for
 // its length, and that lent areas do not overlap, is the caller's part.
@@ -7,6 +7,7 @@ mod cable;
 mod calls;
 mod needs;
 mod packing;
+mod promoting;
 mod reading;
 
 pub use batching::scoterlime_batch;
@@ -24,4 +25,5 @@ pub use needs::scoterlime_batch_need;
 pub use needs::scoterlime_records_need;
 pub use needs::scoterlime_work_need;
 pub use packing::scoterlime_pack;
+pub use promoting::scoterlime_promote_gsub;
 pub use reading::scoterlime_read_gsub;

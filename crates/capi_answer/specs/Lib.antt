@@ -1,3 +1,4 @@
 pub mod Numbers
 pub mod Batch
+pub mod Promote
 pub mod Cable

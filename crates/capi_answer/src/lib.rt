@@ -1,6 +1,7 @@
-// An answer as twelve numbers, a read's and a batch's as seven, a send's as two and a feed's as four. Values that a call does not have are 0.
+// An answer and a promotion's as twelve numbers, a read's and a batch's as seven, a send's as two and a feed's as four. Values that a call does not have are 0.
 mod batches;
 mod cable;
+mod promotes;
 mod reads;
 
 use answer::Answer;
@@ -20,6 +21,8 @@ pub use cable::FedNumbers;
 pub use cable::SentNumbers;
 pub use cable::tell_fed;
 pub use cable::tell_sent;
+pub use promotes::PromoteNumbers;
+pub use promotes::tell_promote;
 pub use reads::ReadNumbers;
 pub use reads::tell_read;
 ghost use mathlib.Core.Path.{_≡_};

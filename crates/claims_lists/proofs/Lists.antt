@@ -1,23 +1,30 @@
--- Demand 3 of lists with reads and batches in them: such a list is one of the eight calls, and each read and batch is as the history says.
+-- Demand 3 of lists with reads, batches and promotions in them: such a list is one of the eight calls, and each of them is as the history says.
 use mathlib.Core.Path.{_≡_, refl, sym, ap, subst, subst₂, _∙_}
 use Prim.Native.Nat.{ℕ}
-use mathlib.Core.List.{List, [], _∷_, _++_, map}
+use mathlib.Core.List.{List, [], _∷_, _++_, map, append-nil}
+use mathlib.Core.Bool.{Bool, true, false}
 use native.Mathlib.Omega.{arith}
+use borrow.Author.Tests.{eqb-true, eqb-false}
+use lib.Dec.{eqb}
 use lib.ListN.{length}
+use Rattle.lists.specs.Lists.{pick}
 use Rattle.model.specs.Judge.{Limits}
 use Rattle.model.specs.History.{History, begun, judged, accept, after, afterAll}
 use Rattle.work.specs.Areas.{workNeed}
 use Rattle.steps.specs.Steps.{limitsOf}
-use Rattle.steps.specs.Runs.{StoreCall, start, Stores, stepOn, leftAfter, LentCall, onStores, lentStep, asCall}
+use Rattle.steps.specs.Runs.{StoreCall, start, Stores, stepOn, leftAfter, LentCall, onStores, pack, lentStep, asCall}
 use Rattle.steps.proofs.Mirrored.{Holding}
-use Rattle.claims.specs.Demand.{Made, run, storesAfter, asLent, afterOne, historyAfter, AllClaim}
+use Rattle.claims.specs.Demand.{needs, Made, run, storesAfter, asLent, afterOne, historyAfter, AllClaim}
 use Rattle.claims.proofs.Demand.{holding-step, holding-start, demand-3}
-use Rattle.gsub_read.specs.Read.{readStep, readCalls}
+use Rattle.gsub_read.specs.Read.{ReadTold, gsubOps, readStep, opsExpected, opsCalls}
 use Rattle.gsub_read.proofs.Fresh.{start-accepted}
 use Rattle.gsub_read.proofs.Listed.{read-told, read-listed}
+use Rattle.gsub.specs.Promote.{trialOps}
+use Rattle.gsub_promote.specs.Search.{Lent, lent, trialAt, before, PromoteLeft, promoteStep, promoteCalls}
+use Rattle.gsub_promote.proofs.Promise.{IsTrial, found-trial, start-refused, promote-listed}
 use Rattle.session_batch.specs.Batch.{BatchLeft, batchStep}
 use Rattle.session_batch.proofs.Histories.{batch-told, batch-ids, batch-listed}
-use Rattle.claims_lists.specs.Lists.{MadeRead, MadeBatch, AnyMade, call, read, batch, leftBy, RanAny, none, more, standsFor, madeBy, asCalls, Right, AllRight, EveryAnyList}
+use Rattle.claims_lists.specs.Lists.{MadeRead, MadeBatch, MadePromote, AnyMade, call, read, batch, promote, leftBy, RanAny, none, more, packCallOf, standsFor, madeBy, asCalls, Promotes, Right, AllRight, EveryAnyList}
 
 abbrev workOf : Limits → ℕ → ℕ
 workOf m copies = workNeed (m .objects) (m .links) copies
@@ -35,6 +42,12 @@ unfolding run storesAfter leftAfter lentStep
 left-run [] s = refl
 left-run (c ∷ cs) s = left-run cs (stepOn c s .stores)
 
+-- a pack behind them leaves the stores
+pack-behind : (cs : List LentCall) (id copies : ℕ) (out work : List ℕ) (s : Stores) → storesAfter (run (cs ++ (pack id copies out work ∷ [])) s) s ≡ storesAfter (run cs s) s
+unfolding run storesAfter lentStep
+pack-behind [] id copies out work s = refl
+pack-behind (c ∷ cs) id copies out work s = pack-behind cs id copies out work (lentStep c s .stores)
+
 -- ---- what the contracts say of each
 
 -- it is its step
@@ -42,6 +55,7 @@ unfoldable pub IsStep : Stores → AnyMade → Type 0
 IsStep s (call m) = m .left ≡ lentStep (m .call) s
 IsStep s (read r) = r .left ≡ readStep (r .table) (r .objects) (r .links) s
 IsStep s (batch b) = b .left ≡ batchStep (b .calls) (b .bytes) (b .ids) (b .work) s
+IsStep s (promote p) = p .left ≡ promoteStep (p .table) (p .objects) (p .links) (lent s (p .out) (p .work))
 
 module _ (bytes words : ℕ) where
   abbrev Holds : Stores → History → Type 0
@@ -55,7 +69,7 @@ module _ (bytes words : ℕ) where
   -- ---- one of them
 
   record One (x : AnyMade) (s : Stores) (h : History) : Type 0 where
-    as-run : madeBy bytes words h x s ≡ run (standsFor bytes words h x) s
+    as-run : madeBy bytes words h x s ≡ run (standsFor bytes words s h x) s
     leaves : leftBy x ≡ storesAfter (madeBy bytes words h x s) s
     right : Right bytes words x s h
 
@@ -67,8 +81,8 @@ module _ (bytes words : ℕ) where
   one-read : {s : Stores} (h : History) (r : MadeRead) → length (s .bytes) ≡ bytes → length (s .words) ≡ words → r .left ≡ readStep (r .table) (r .objects) (r .links) s → One (read r) s h
   unfolding Right
   one-read {s} h r e f k =
-      let l : r .left .stores ≡ storesAfter (run (standsFor bytes words h (read r)) s) s = rw (k, ← e, ← f) (read-listed (r .table) (r .objects) (r .links) s workOf ∙ left-run _ s) in
-      record { as-run = refl; leaves = l; right = (rw (k, ← e, ← f) (read-told (r .table) (r .objects) (r .links) s workOf), l) }
+      let l : r .left .stores ≡ storesAfter (run (standsFor bytes words s h (read r)) s) s = rw (k, ← e, ← f) (read-listed (gsubOps (r .table)) (r .objects) (r .links) s workOf ∙ left-run _ s) in
+      record { as-run = refl; leaves = l; right = (rw (k, ← e, ← f) (read-told (gsubOps (r .table)) (r .objects) (r .links) s workOf), l) }
 
   one-batch : {s : Stores} {h : History} → Holds s h → (b : MadeBatch) → b .left ≡ batchStep (b .calls) (b .bytes) (b .ids) (b .work) s → One (batch b) s h
   unfolding Right
@@ -80,14 +94,65 @@ module _ (bytes words : ℕ) where
         right = (ap (λ (x : BatchLeft). x .told) k ∙ batch-told workOf bytes words (b .calls) (b .bytes) (b .ids) (b .work) z, ap (λ (x : BatchLeft). x .ids) k ∙ batch-ids workOf bytes words (b .calls) (b .bytes) (b .ids) (b .work) z, l);
       }
 
+  -- nor does a promotion ask more of them
+  module _ (s : Stores) (h : History) (p : MadePromote) (e : length (s .bytes) ≡ bytes) (f : length (s .words) ≡ words)
+      (k : p .left ≡ promoteStep (p .table) (p .objects) (p .links) (lent s (p .out) (p .work))) where
+    abbrev x : Lent
+    x = lent s (p .out) (p .work)
+
+    abbrev calls : List StoreCall
+    calls = promoteCalls needs bytes words (p .table) (p .objects) (p .links) (p .left .told)
+
+    -- as its session calls leave them
+    promote-leaves : p .left .left .stores ≡ leftAfter calls s
+    promote-leaves = rw (k, ← e, ← f) (promote-listed (p .table) (p .objects) (p .links) x workOf)
+
+    promotes : p .left .told .number ≡ 0 → Promotes bytes words p (opsExpected needs bytes words (trialOps (p .left .told .lookups) (p .table)) (p .objects) (p .links)) (lentStep (packCallOf s p) (p .left .left .stores))
+    promotes z = go (eqb (stepOn (start (p .objects) (p .links)) s .told .number) 0) refl
+      where
+        go : (b : Bool) → eqb (stepOn (start (p .objects) (p .links)) s .told .number) 0 ≡ b
+            → Promotes bytes words p (opsExpected needs bytes words (trialOps (p .left .told .lookups) (p .table)) (p .objects) (p .links)) (lentStep (packCallOf s p) (p .left .left .stores))
+        go true q =
+            let begins = eqb-true _ 0 q in
+            let t = subst (IsTrial (p .table) (p .objects) (p .links) x begins) (sym k) (found-trial (p .table) (p .objects) (p .links) x begins (ap (λ (l : PromoteLeft). l .told .number) (sym k) ∙ z)) in
+            let n = p .left .told .lookups in
+            let y = before (p .table) (p .objects) (p .links) x n in
+            let tried = trialAt (p .table) (p .objects) (p .links) x n in
+            let read : tried .read .told ≡ opsExpected needs bytes words (trialOps n (p .table)) (p .objects) (p .links) =
+            read-told (trialOps n (p .table)) (p .objects) (p .links) (y .stores) workOf
+            ∙ (λ i. opsExpected needs ((t .afresh .sameBytes ∙ e) i) ((t .afresh .sameWords ∙ f) i) (trialOps n (p .table)) (p .objects) (p .links)) in
+            let id : p .left .told .id ≡ tried .read .told .id = ap (λ (l : PromoteLeft). l .told .id) (t .is) in
+            let stores-are : p .left .left .stores ≡ tried .read .stores = ap (λ (l : PromoteLeft). l .left .stores) (t .is) in
+            let same : lentStep (packCallOf s p) (p .left .left .stores) ≡ tried .pack = λ i. lentStep (pack (id i) 0 (sym (t .afresh .output) i) (y .work)) (stores-are i) in
+            rw same record {
+              readable = ap (λ (r : ReadTold). r .number) (sym read) ∙ t .read;
+              id-is = id ∙ ap (λ (r : ReadTold). r .id) read;
+              tally-is = ap (λ (l : PromoteLeft). l .told .tally) (t .is) ∙ ap (λ (r : ReadTold). r .tally) read;
+              packed = t .pack;
+              length-is = ap (λ (l : PromoteLeft). l .told .length) (t .is);
+              output-is = ap (λ (l : PromoteLeft). l .left .out) (t .is);
+            }
+        go false q = absurd (start-refused (p .table) (p .objects) (p .links) x (eqb-false _ 0 q) (ap (λ (l : PromoteLeft). l .told .number) (sym k) ∙ z))
+
+    one-promote : One (promote p) s h
+    unfolding Right
+    one-promote =
+        let l = promote-leaves ∙ left-run calls s ∙ sym (go (eqb (p .left .told .number) 0)) in
+        record { as-run = refl; leaves = l; right = (promotes, l) }
+      where
+        go : (b : Bool) → storesAfter (run (map onStores calls ++ pick b (packCallOf s p ∷ []) []) s) s ≡ storesAfter (run (map onStores calls) s) s
+        go true = pack-behind (map onStores calls) _ _ _ _ s
+        go false = ap (λ cs. storesAfter (run cs s) s) (append-nil (map onStores calls))
+
   one : {s : Stores} {h : History} → Holds s h → (x : AnyMade) → IsStep s x → One x s h
   unfolding IsStep
   one {h = h} z (call m) k = one-call h m k
   one {h = h} z (read r) k = one-read h r (z .sameBytes) (z .sameWords) k
   one z (batch b) k = one-batch z b k
+  one {s} {h} z (promote p) k = one-promote s h p (z .sameBytes) (z .sameWords) k
 
   after-one : {s : Stores} {h : History} (x : AnyMade) → Holds s h → One x s h → Holds (leftBy x) (historyAfter bytes words (madeBy bytes words h x s) h)
-  after-one {s} {h} x k o = rw (o .leaves, o .as-run) (holding-run (standsFor bytes words h x) k)
+  after-one {s} {h} x k o = rw (o .leaves, o .as-run) (holding-run (standsFor bytes words s h x) k)
 
   -- ---- a list of them
 
@@ -98,13 +163,13 @@ module _ (bytes words : ℕ) where
 
   -- one more in front
   run-more : (x : AnyMade) {xs : List AnyMade} {s : Stores} {h : History} → One x s h → (l : Listed xs (leftBy x) (historyAfter bytes words (madeBy bytes words h x s) h))
-      → asCalls bytes words (x ∷ xs) s h ≡ run (standsFor bytes words h x ++ l .calls) s
+      → asCalls bytes words (x ∷ xs) s h ≡ run (standsFor bytes words s h x ++ l .calls) s
   unfolding asCalls
   run-more x {xs} {s} {h} o l =
       let ms = madeBy bytes words h x s in
       ap (λ r. ms ++ r) (subst (λ t. asCalls bytes words xs t (historyAfter bytes words ms h) ≡ run (l .calls) t) (o .leaves) (l .as-run))
       ∙ ap (λ r. r ++ run (l .calls) (storesAfter r s)) (o .as-run)
-      ∙ sym (run-append (standsFor bytes words h x) (l .calls) s)
+      ∙ sym (run-append (standsFor bytes words s h x) (l .calls) s)
 
   right-more : (x : AnyMade) {xs : List AnyMade} {s : Stores} {h : History} → One x s h → Listed xs (leftBy x) (historyAfter bytes words (madeBy bytes words h x s) h) → AllRight bytes words (x ∷ xs) s h
   unfolding AllRight
@@ -117,13 +182,17 @@ module _ (bytes words : ℕ) where
     all-listed {s = s} {h = h} k (more {x = x} m r) =
         let o = one k x (step s x m) in
         let l = all-listed (after-one x k o) r in
-        record { calls = standsFor bytes words h x ++ l .calls; as-run = run-more x o l; right = right-more x o l }
+        record { calls = standsFor bytes words s h x ++ l .calls; as-run = run-more x o l; right = right-more x o l }
 
 -- ---- from the start on
 
 abbrev behindFirst : {A : Type 0} → List A → List A
 behindFirst [] = []
 behindFirst (x ∷ xs) = xs
+
+abbrev firstOf : {A : Type 0} → A → List A → A
+firstOf d [] = d
+firstOf d (x ∷ xs) = x
 
 -- an accepted start begins the history anew
 start-begins : (objects links : ℕ) (s : Stores) (h : History) → stepOn (start objects links) s .told .number ≡ 0
@@ -162,26 +231,73 @@ module _ {made : Stores → AnyMade → Type 0} (step : (s : Stores) (x : AnyMad
       let k : Holding (length (s .bytes)) (length (s .words)) (m .left .stores) (afterOne (length (s .bytes)) (length (s .words)) (m .call) h) = rw (l, f, start-begins objects links s h y) (holding-start objects links s y) in
       all-listed _ _ step k r
 
-  -- a list that begins with a read, whose start is the first of its calls
-  record ReadListed (r : MadeRead) (xs : List AnyMade) (s : Stores) (h : History) : Type 0 where
+  -- a list that begins with a call that has a start of its own
+  record Starting (x : AnyMade) (s : Stores) (h : History) : Type 0 where
+    objects : ℕ
+    links : ℕ
     calls : List LentCall
-    as-run : asCalls (length (s .bytes)) (length (s .words)) (read r ∷ xs) s h ≡ run (onStores (start (r .objects) (r .links)) ∷ calls) s
-    right : AllRight (length (s .bytes)) (length (s .words)) (read r ∷ xs) s h
+    is : standsFor (length (s .bytes)) (length (s .words)) s h x ≡ onStores (start objects links) ∷ calls
+    one-is : One (length (s .bytes)) (length (s .words)) x s h
 
-  read-begins : (s : Stores) (h : History) (r : MadeRead) (xs : List AnyMade) → r .left ≡ readStep (r .table) (r .objects) (r .links) s → stepOn (start (r .objects) (r .links)) s .told .number ≡ 0
-      → RanAny made (r .left .stores) xs → ReadListed r xs s h
-  unfolding readCalls
-  read-begins s h r xs e y q =
+  record StartListed (objects links : ℕ) (x : AnyMade) (xs : List AnyMade) (s : Stores) (h : History) : Type 0 where
+    calls : List LentCall
+    as-run : asCalls (length (s .bytes)) (length (s .words)) (x ∷ xs) s h ≡ run (onStores (start objects links) ∷ calls) s
+    right : AllRight (length (s .bytes)) (length (s .words)) (x ∷ xs) s h
+
+  start-listed : (x : AnyMade) (xs : List AnyMade) (s : Stores) (h : History) (k : Starting x s h) → stepOn (start (k .objects) (k .links)) s .told .number ≡ 0 → RanAny made (leftBy x) xs
+      → StartListed (k .objects) (k .links) x xs s h
+  start-listed x xs s h k y q =
       let bytes = length (s .bytes) in
       let words = length (s .words) in
-      let o = one-read bytes words h r refl refl e in
-      let k = start-run (r .objects) (r .links) s h (behindFirst (standsFor bytes words h (read r))) y in
-      let t = historyAfter bytes words (madeBy bytes words h (read r) s) h in
-      let l = all-listed bytes words step (subst (λ x. Holding bytes words x t) (sym (o .leaves)) k) q in
-      record { calls = behindFirst (standsFor bytes words h (read r)) ++ l .calls; as-run = run-more bytes words (read r) o l; right = right-more bytes words (read r) o l }
+      let o = k .one-is in
+      let m : madeBy bytes words h x s ≡ run (onStores (start (k .objects) (k .links)) ∷ k .calls) s = o .as-run ∙ ap (λ cs. run cs s) (k .is) in
+      let holds : Holding bytes words (leftBy x) (historyAfter bytes words (madeBy bytes words h x s) h) = rw (o .leaves, m) (start-run (k .objects) (k .links) s h (k .calls) y) in
+      let l = all-listed bytes words step holds q in
+      record { calls = k .calls ++ l .calls; as-run = run-more bytes words x o l ∙ ap (λ cs. run (cs ++ l .calls) s) (k .is); right = right-more bytes words x o l }
+
+  -- it is as the history says
+  start-claim : (objects links : ℕ) (s : Stores) (h : History) (x : AnyMade) (xs : List AnyMade) (first : Made) (rest : List Made) (k : Starting x s h) → RanAny made (leftBy x) xs
+      → asCalls (length (s .bytes)) (length (s .words)) (x ∷ xs) s h ≡ first ∷ rest → first .call ≡ onStores (start objects links) → first .left .told .number ≡ 0
+      → AllClaim (length (s .bytes)) (length (s .words)) rest (first .left .stores) (begun (limitsOf objects links (s .bytes))) × AllRight (length (s .bytes)) (length (s .words)) (x ∷ xs) s h
+  unfolding asCalls run storesAfter lentStep
+  start-claim objects links s h x xs first rest k q e f z =
+      let bytes = length (s .bytes) in
+      let words = length (s .words) in
+      let begin : Made = record { call = onStores (start (k .objects) (k .links)); left = lentStep (onStores (start (k .objects) (k .links))) s } in
+      let ms = madeBy bytes words h x s in
+      let more-of : List Made → List Made = λ r. r ++ asCalls bytes words xs (storesAfter ms s) (historyAfter bytes words ms h) in
+      let m : ms ≡ run (onStores (start (k .objects) (k .links)) ∷ k .calls) s = k .one-is .as-run ∙ ap (λ cs. run cs s) (k .is) in
+      let d : begin ≡ first = ap (firstOf first) (sym (ap more-of m) ∙ e) in
+      let g : onStores (start (k .objects) (k .links)) ≡ onStores (start objects links) = ap (λ (x : Made). x .call) d ∙ f in
+      let eo : k .objects ≡ objects = cc in
+      let el : k .links ≡ links = cc in
+      let y : stepOn (start (k .objects) (k .links)) s .told .number ≡ 0 = ap (λ (x : Made). x .left .told .number) d ∙ z in
+      let l = start-listed x xs s h k y q in
+      let w : run (onStores (start (k .objects) (k .links)) ∷ l .calls) s ≡ first ∷ rest = sym (l .as-run) ∙ e in
+      (rw (← eo, ← el) (from-start (k .objects) (k .links) s first rest (l .calls) y (ap (λ (x : Made). x .left .stores) (sym d)) (sym (ap behindFirst w))), l .right)
+
+  read-starts : (s : Stores) (h : History) (r : MadeRead) → r .left ≡ readStep (r .table) (r .objects) (r .links) s → Starting (read r) s h
+  unfolding opsCalls
+  read-starts s h r e = record { objects = r .objects; links = r .links; calls = _; is = refl; one-is = one-read (length (s .bytes)) (length (s .words)) h r refl refl e }
+
+  promote-starts : (s : Stores) (h : History) (p : MadePromote) → p .left ≡ promoteStep (p .table) (p .objects) (p .links) (lent s (p .out) (p .work)) → Starting (promote p) s h
+  unfolding opsCalls
+  promote-starts s h p e = go (eqb (p .left .told .number) 0) refl
+    where
+      shape : Bool → List LentCall
+      shape b =
+          map onStores (pick b (opsCalls needs (length (s .bytes)) (length (s .words)) (trialOps (p .left .told .lookups) (p .table)) (p .objects) (p .links)) (start (p .objects) (p .links) ∷ []))
+          ++ pick b (packCallOf s p ∷ []) []
+
+      o : One (length (s .bytes)) (length (s .words)) (promote p) s h
+      o = one-promote (length (s .bytes)) (length (s .words)) s h p refl refl e
+
+      go : (b : Bool) → eqb (p .left .told .number) 0 ≡ b → Starting (promote p) s h
+      go true q = record { objects = p .objects; links = p .links; calls = behindFirst (shape true); is = ap shape q; one-is = o }
+      go false q = record { objects = p .objects; links = p .links; calls = behindFirst (shape false); is = ap shape q; one-is = o }
 
   pub any-claim : EveryAnyList made
-  unfolding asCalls AllRight Right IsStep lentStep run storesAfter readCalls
+  unfolding asCalls AllRight Right IsStep lentStep run storesAfter opsCalls
   any-claim objects links s h (call m) xs first rest (more c r) b e f z =
       let q : m ≡ first = cc in
       let t : asCalls (length (s .bytes)) (length (s .words)) xs (m .left .stores) (historyAfter (length (s .bytes)) (length (s .words)) (m ∷ []) h) ≡ rest = cc in
@@ -191,13 +307,6 @@ module _ {made : Stores → AnyMade → Type 0} (step : (s : Stores) (x : AnyMad
       let left = ap (λ x. x .stores) l in
       let k = call-listed objects links s h m (step s (call m) c) g y r in
       (from-start objects links s first rest (k .calls) y (ap (λ (x : Made). x .left .stores) (sym q) ∙ left) (sym t ∙ k .as-run ∙ ap (run (k .calls)) left), (tt, k .right))
-  any-claim objects links s h (read r) xs first rest (more c p) b e f z =
-      let q : record { call = onStores (start (r .objects) (r .links)); left = lentStep (onStores (start (r .objects) (r .links))) s } ≡ first = cc in
-      let g : onStores (start (r .objects) (r .links)) ≡ onStores (start objects links) = ap (λ (x : Made). x .call) q ∙ f in
-      let eo : r .objects ≡ objects = cc in
-      let el : r .links ≡ links = cc in
-      let y : stepOn (start (r .objects) (r .links)) s .told .number ≡ 0 = ap (λ (x : Made). x .left .told .number) q ∙ z in
-      let k = read-begins s h r xs (step s (read r) c) y p in
-      let w : run (onStores (start (r .objects) (r .links)) ∷ k .calls) s ≡ first ∷ rest = sym (k .as-run) ∙ e in
-      (rw (← eo, ← el) (from-start (r .objects) (r .links) s first rest (k .calls) y (ap (λ (x : Made). x .left .stores) (sym q)) (sym (ap behindFirst w))), k .right)
+  any-claim objects links s h (read r) xs first rest (more c q) b e f z = start-claim objects links s h (read r) xs first rest (read-starts s h r (step s (read r) c)) q e f z
+  any-claim objects links s h (promote p) xs first rest (more c q) b e f z = start-claim objects links s h (promote p) xs first rest (promote-starts s h p (step s (promote p) c)) q e f z
   any-claim objects links s h (batch x) xs first rest r b e f z = absurd b

@@ -1,14 +1,17 @@
--- docs/RULES.md, section 8, 11.8 and 14.6: lists of all calls, in which a read and a batch stand for several of the eight.
+-- docs/RULES.md, section 8, 11.8, 14.6 and 15.8: lists of all calls, in which a read, a batch and a promotion stand for several of the eight.
 use Prim.Native.Nat.{ℕ}
 use mathlib.Core.Path.{_≡_}
 use mathlib.Core.List.{List, [], _∷_, _++_, map}
+use lib.Dec.{eqb}
 use lib.ListN.{length}
-use Rattle.lists.specs.Lists.{over}
+use Rattle.lists.specs.Lists.{pick, over}
 use Rattle.model.specs.History.{History, begun}
 use Rattle.steps.specs.Steps.{limitsOf}
-use Rattle.steps.specs.Runs.{start, Stores, LentCall, onStores}
+use Rattle.steps.specs.Runs.{start, Stores, LentCall, onStores, pack, LentLeft, lentStep}
 use Rattle.claims.specs.Demand.{needs, Made, run, storesAfter, historyAfter, AllClaim}
-use Rattle.gsub_read.specs.Read.{ReadLeft, readExpected, readCalls}
+use Rattle.gsub.specs.Promote.{trialOps}
+use Rattle.gsub_read.specs.Read.{ReadTold, ReadLeft, opsExpected, readExpected, readCalls}
+use Rattle.gsub_promote.specs.Search.{Lent, lent, PromoteLeft, before, promoteCalls}
 use Rattle.session_batch.specs.Batch.{Batch, BatchLeft, batchExpected, batchIds, batchCalls}
 
 -- a read with its arguments, and what it told and left
@@ -26,17 +29,28 @@ pub record MadeBatch : Type 0 where
   pub work : List ℕ
   pub left : BatchLeft
 
--- one of the eight calls, a read or a batch
+-- a promotion with its arguments, the output and the work memory that it was lent, and what it told and left
+pub record MadePromote : Type 0 where
+  pub table : List ℕ
+  pub objects : ℕ
+  pub links : ℕ
+  pub out : List ℕ
+  pub work : List ℕ
+  pub left : PromoteLeft
+
+-- one of the eight calls, a read, a batch or a promotion
 pub data AnyMade : Type 0 where
   call : Made → AnyMade
   read : MadeRead → AnyMade
   batch : MadeBatch → AnyMade
+  promote : MadePromote → AnyMade
 
 -- the stores that it left
 abbrev pub leftBy : AnyMade → Stores
 leftBy (call m) = m .left .stores
 leftBy (read r) = r .left .stores
 leftBy (batch b) = b .left .stores
+leftBy (promote p) = p .left .left .stores
 
 -- each gets the stores as the one before left them; `made` says which there are on given stores
 pub data RanAny (made : Stores → AnyMade → Type 0) : Stores → List AnyMade → Type 0 where
@@ -47,25 +61,42 @@ pub data RanAny (made : Stores → AnyMade → Type 0) : Stores → List AnyMade
 abbrev pub argumentsOf : MadeBatch → Batch
 argumentsOf b = record { calls = b .calls; bytes = b .bytes; room = length (b .ids); work = length (b .work) }
 
+-- the pack of an accepted promotion: its work memory is as the trials before it left it, of which the history is fed the length alone
+abbrev pub packCallOf : Stores → MadePromote → LentCall
+packCallOf s p = pack (p .left .told .id) 0 (p .out) (before (p .table) (p .objects) (p .links) (lent s (p .out) (p .work)) (p .left .told .lookups) .work)
+
 module _ (bytes words : ℕ) where
-  -- the calls that it stands for, by its arguments, the stores' lengths and the history before it
-  abbrev pub standsFor : History → AnyMade → List LentCall
-  standsFor h (call m) = m .call ∷ []
-  standsFor h (read r) = map onStores (readCalls needs bytes words (r .table) (r .objects) (r .links))
-  standsFor h (batch b) = map onStores (batchCalls needs bytes words (argumentsOf b) h)
+  -- the calls that it stands for on these stores, by its arguments, the stores' lengths and the history before it; of an accepted promotion those of the trial with as many lookups
+  -- promoted as it told, and the pack
+  abbrev pub standsFor : Stores → History → AnyMade → List LentCall
+  standsFor s h (call m) = m .call ∷ []
+  standsFor s h (read r) = map onStores (readCalls needs bytes words (r .table) (r .objects) (r .links))
+  standsFor s h (batch b) = map onStores (batchCalls needs bytes words (argumentsOf b) h)
+  standsFor s h (promote p) =
+      map onStores (promoteCalls needs bytes words (p .table) (p .objects) (p .links) (p .left .told)) ++ pick (eqb (p .left .told .number) 0) (packCallOf s p ∷ []) []
 
   -- these with what each left: of one of the eight, what it did leave
   abbrev pub madeBy : History → AnyMade → Stores → List Made
   madeBy h (call m) s = m ∷ []
-  madeBy h (read r) s = run (standsFor h (read r)) s
-  madeBy h (batch b) s = run (standsFor h (batch b)) s
+  madeBy h (read r) s = run (standsFor s h (read r)) s
+  madeBy h (batch b) s = run (standsFor s h (batch b)) s
+  madeBy h (promote p) s = run (standsFor s h (promote p)) s
 
   -- a list as one of the eight calls
   unfoldable pub asCalls : List AnyMade → Stores → History → List Made
   asCalls [] s h = []
   asCalls (x ∷ xs) s h = let ms = madeBy h x s in ms ++ asCalls xs (storesAfter ms s) (historyAfter bytes words ms h)
 
-  -- a read and a batch tell what the history says, and leave the stores as the calls that they stand for leave them
+  -- what a promotion tells where it is accepted: what the history says of the trial's read, and what the pack tells and leaves
+  pub record Promotes (p : MadePromote) (e : ReadTold) (l : LentLeft) : Type 0 where
+    pub readable : e .number ≡ 0
+    pub id-is : p .left .told .id ≡ e .id
+    pub tally-is : p .left .told .tally ≡ e .tally
+    pub packed : l .told .number ≡ 0
+    pub length-is : p .left .told .length ≡ l .told .length
+    pub output-is : p .left .left .out ≡ l .out
+
+  -- a read, a batch and a promotion tell what the history says, and leave the stores as the calls that they stand for leave them
   unfoldable pub Right : AnyMade → Stores → History → Type 0
   Right (call m) s h = Unit {0}
   Right (read r) s h = (r .left .told ≡ readExpected needs bytes words (r .table) (r .objects) (r .links)) × (r .left .stores ≡ storesAfter (madeBy h (read r) s) s)
@@ -73,6 +104,9 @@ module _ (bytes words : ℕ) where
       (b .left .told ≡ batchExpected needs bytes words (argumentsOf b) h)
       × (b .left .ids ≡ over 0 (batchIds needs bytes words (argumentsOf b) h) (b .ids))
       × (b .left .stores ≡ storesAfter (madeBy h (batch b) s) s)
+  Right (promote p) s h =
+      (p .left .told .number ≡ 0 → Promotes p (opsExpected needs bytes words (trialOps (p .left .told .lookups) (p .table)) (p .objects) (p .links)) (lentStep (packCallOf s p) (p .left .left .stores)))
+      × (p .left .left .stores ≡ storesAfter (madeBy h (promote p) s) s)
 
   unfoldable pub AllRight : List AnyMade → Stores → History → Type 0
   AllRight [] s h = Unit {0}
@@ -83,13 +117,14 @@ abbrev pub MayBegin : AnyMade → Type 0
 MayBegin (call m) = Unit {0}
 MayBegin (read r) = Unit {0}
 MayBegin (batch b) = ⊥
+MayBegin (promote p) = Unit {0}
 
--- every list that begins with an accepted start, a read's own included, whatever was held before: as a list of the eight calls it is as the history
--- says, and so is each read and each batch
+-- every list that begins with an accepted start, a read's or a promotion's own included, whatever was held before: as a list of the eight calls it is as the history
+-- says, and so is each read, batch and promotion
 abbrev pub EveryAnyList : (Stores → AnyMade → Type 0) → Type 0
 EveryAnyList made =
-    (objects links : ℕ) (s : Stores) (before : History) (x : AnyMade) (xs : List AnyMade) (first : Made) (rest : List Made) → RanAny made s (x ∷ xs) → MayBegin x
+    (objects links : ℕ) (s : Stores) (earlier : History) (x : AnyMade) (xs : List AnyMade) (first : Made) (rest : List Made) → RanAny made s (x ∷ xs) → MayBegin x
     → let bytes = length (s .bytes) in
     let words = length (s .words) in
-    asCalls bytes words (x ∷ xs) s before ≡ first ∷ rest → first .call ≡ onStores (start objects links) → first .left .told .number ≡ 0
-    → AllClaim bytes words rest (first .left .stores) (begun (limitsOf objects links (s .bytes))) × AllRight bytes words (x ∷ xs) s before
+    asCalls bytes words (x ∷ xs) s earlier ≡ first ∷ rest → first .call ≡ onStores (start objects links) → first .left .told .number ≡ 0
+    → AllClaim bytes words rest (first .left .stores) (begun (limitsOf objects links (s .bytes))) × AllRight bytes words (x ∷ xs) s earlier

@@ -1,4 +1,4 @@
--- docs/RULES.md, 8.1, 11.8 and 14.6: one of the eight calls, a read or a batch by its public function, and by its C function, of which only the contract is known.
+-- docs/RULES.md, 8.1, 11.8, 14.6 and 15.8: one of the eight calls, a read, a batch or a promotion by its public function, and by its C function, of which only the contract is known.
 use denote.Ref.{now}
 use Rattle.steps.specs.Runs.{Stores, stores}
 use Rattle.claims.specs.Demand.{Made}
@@ -7,18 +7,25 @@ use Rattle.claims_program.specs.Program.{Called}
 use Rattle.claims_program.specs.FromC.{CalledC}
 use Rattle.capi_answer.specs.Numbers.{toldInRead}
 use Rattle.capi_answer.specs.Batch.{toldInBatch}
+use Rattle.capi_answer.specs.Promote.{toldInPromote}
 use Rattle.gsub_read.specs.Read.{toldByRead, readLeft}
+use Rattle.gsub_promote.specs.Search.{promoteLeft}
+use Rattle.gsub_promote.specs.Tried.{toldByPromote}
 use Rattle.session_batch.specs.Batch.{batchLeft}
 use Rattle.batch.specs.Batch.{toldByBatch}
 use Rattle.gsub_read.proofs.read_gsub.Kinds as read-kinds
 use Rattle.gsub_read.proofs.read_gsub.Reads as read-reads
 use Rattle.batch.proofs.batch.Kinds as batch-kinds
 use Rattle.batch.proofs.batch.Reads as batch-reads
+use Rattle.gsub_promote.proofs.promote_gsub.Kinds as promote-kinds
+use Rattle.gsub_promote.proofs.promote_gsub.Reads as promote-reads
 use Rattle.capi.proofs.scoterlime_read_gsub.Kinds as c-read-kinds
 use Rattle.capi.proofs.scoterlime_read_gsub.Reads as c-read-reads
 use Rattle.capi.proofs.scoterlime_batch.Kinds as c-batch-kinds
 use Rattle.capi.proofs.scoterlime_batch.Reads as c-batch-reads
-use Rattle.claims_lists.specs.Lists.{AnyMade, call, read, batch}
+use Rattle.capi.proofs.scoterlime_promote_gsub.Kinds as c-promote-kinds
+use Rattle.capi.proofs.scoterlime_promote_gsub.Reads as c-promote-reads
+use Rattle.claims_lists.specs.Lists.{AnyMade, call, read, batch, promote}
 
 -- on these stores
 pub data MadeOn : Stores → AnyMade → Type 0 where
@@ -42,6 +49,17 @@ pub data MadeOn : Stores → AnyMade → Type 0 where
         work = now (f .args .1 .1 .1 .1 .1 .0);
         left = batchLeft (toldByBatch (f .result)) (now (f .exit .0)) (now (f .exit .1 .0)) (now (f .exit .1 .1 .1 .1 .0)) (now (f .exit .1 .1 .1 .1 .1 .0));
       }))
+  by-promote : (f : Returned 5 promote-kinds.ps promote-kinds.r promote-reads.Post)
+      → MadeOn (stores (now (f .args .0)) (now (f .args .1 .0)))
+      (promote
+      (record {
+        table = now (f .args .1 .1 .1 .1 .0);
+        objects = f .args .1 .1 .0;
+        links = f .args .1 .1 .1 .0;
+        out = now (f .args .1 .1 .1 .1 .1 .0);
+        work = now (f .args .1 .1 .1 .1 .1 .1 .0);
+        left = promoteLeft (toldByPromote (f .result)) (stores (now (f .exit .0)) (now (f .exit .1 .0))) (now (f .exit .1 .1 .1 .1 .1 .0)) (now (f .exit .1 .1 .1 .1 .1 .1 .0));
+      }))
 
 pub data MadeOnC : Stores → AnyMade → Type 0 where
   c-call : {s : Stores} {m : Made} → CalledC s m → MadeOnC s (call m)
@@ -63,4 +81,15 @@ pub data MadeOnC : Stores → AnyMade → Type 0 where
         ids = now (f .args .1 .1 .1 .1 .0);
         work = now (f .args .1 .1 .1 .1 .1 .0);
         left = batchLeft (toldInBatch (f .result)) (now (f .exit .0)) (now (f .exit .1 .0)) (now (f .exit .1 .1 .1 .1 .0)) (now (f .exit .1 .1 .1 .1 .1 .0));
+      }))
+  c-promote : (f : Returned 5 c-promote-kinds.ps c-promote-kinds.r c-promote-reads.Post)
+      → MadeOnC (stores (now (f .args .0)) (now (f .args .1 .0)))
+      (promote
+      (record {
+        table = now (f .args .1 .1 .1 .1 .0);
+        objects = f .args .1 .1 .0;
+        links = f .args .1 .1 .1 .0;
+        out = now (f .args .1 .1 .1 .1 .1 .0);
+        work = now (f .args .1 .1 .1 .1 .1 .1 .0);
+        left = promoteLeft (toldInPromote (f .result)) (stores (now (f .exit .0)) (now (f .exit .1 .0))) (now (f .exit .1 .1 .1 .1 .1 .0)) (now (f .exit .1 .1 .1 .1 .1 .1 .0));
       }))

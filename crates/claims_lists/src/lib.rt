@@ -1,1 +1,1 @@
-// The claims about lists of all calls, in which a read and a batch stand for several. There is no code here.
+// The claims about lists of all calls, in which a read, a batch and a promotion stand for several. There is no code here.

@@ -25,6 +25,8 @@ use Rattle.gsub.specs.declared.Field.{Field}
 use Rattle.gsub.specs.Tables.{fieldsAt}
 use Rattle.gsub.specs.Ops.{Act, keep, follow, refuse, valueAt, act, Op, begin, put, link, end, stop, actOps, fieldsOps, tableOps, Outcome, outcome, goOn, perform}
 use Rattle.gsub.specs.Meaning.{actBytes, ownBytes, actReading, fieldsReading, tableReading}
+use Rattle.gsub.specs.Promote.{Mode, plain, bytesIn, placeIn, childMode, childPlace, modeOps, modeReading}
+use Rattle.gsub.proofs.Plain.{plain-ops, plain-reading}
 use Rattle.gsub.proofs.Grows.{onBytes, on-same, on-whole, on-put, on-link, size-put, size-link}
 
 -- a field that is not refused lies in the slice
@@ -79,6 +81,10 @@ module _ (n : Needs) (store records : ℕ) where
     here : Known r id (next .closed)
     keeps : Keeps h next
 
+  -- ops that write a table which reads r
+  pub record ReadsAs (ops : List Op) (r : Reading) : Type 0 where
+    read : (rest : List Op) (i : ℕ) (h : History) → perform call (ops ++ rest) i h .number ≡ 0 → Read r rest h (perform call (ops ++ rest) i h)
+
   -- after fields that make the innermost open object r
   record Grown (r : Reading) (os : List Reading) (rest : List Op) (h : History) (o : Outcome History) : Type 0 where
     id : ℕ
@@ -115,10 +121,10 @@ module _ (n : Needs) (store records : ℕ) where
 
   -- ---- fields from a on of a table at p of b, given what its children do, whatever ops follow
 
-  record Children (ops : Kind → ℕ → List Op) (rd : Kind → ℕ → Reading) : Type 0 where
-    read : (k : Kind) (q : ℕ) (rest : List Op) (i : ℕ) (h : History) → perform call (ops k q ++ rest) i h .number ≡ 0 → Read (rd k q) rest h (perform call (ops k q ++ rest) i h)
+  record Children (ops : ℕ → Kind → ℕ → List Op) (rd : ℕ → Kind → ℕ → Reading) : Type 0 where
+    read : (a : ℕ) (k : Kind) (q : ℕ) → ReadsAs (ops a k q) (rd a k q)
 
-  module _ (ops : Kind → ℕ → List Op) (rd : Kind → ℕ → Reading) (b : List ℕ) (p : ℕ) where
+  module _ (ops : ℕ → Kind → ℕ → List Op) (rd : ℕ → Kind → ℕ → Reading) (b : List ℕ) (p : ℕ) where
     abbrev grownBy : ℕ → List Field → Reading → Reading
     grownBy a fs x = onBytes x (λ o. fieldsReading rd b p a fs (o ++ ownBytes b p a fs))
 
@@ -135,10 +141,10 @@ module _ (n : Needs) (store records : ℕ) where
     -- one field more in front, of width w, which is judged y
     module _ (a w : ℕ) (fs : List Field) (later : FieldsRead (a + w) fs) where
       abbrev opsBy : Act → List Op → List Op
-      opsBy y rest = (actOps ops b p a w y ++ fieldsOps ops b p (a + w) fs) ++ rest
+      opsBy y rest = (actOps (ops a) b p a w y ++ fieldsOps ops b p (a + w) fs) ++ rest
 
       abbrev readBy : Act → Reading → Reading
-      readBy y x = onBytes x (λ o. actReading rd b p a w y (fieldsReading rd b p (a + w) fs (o ++ (actBytes b (p + a) w y ++ ownBytes b p (a + w) fs))))
+      readBy y x = onBytes x (λ o. actReading (rd a) b p a w y (fieldsReading rd b p (a + w) fs (o ++ (actBytes b (p + a) w y ++ ownBytes b p (a + w) fs))))
 
       record FieldRead (y : Act) : Type 0 where
         read : (x : Reading) (os : List Reading) (rest : List Op) (i : ℕ) (h : History) → h .opens ≡ x ∷ os → readingSize x ≡ a
@@ -170,19 +176,19 @@ module _ (n : Needs) (store records : ℕ) where
         read = λ x os rest i h e s z.
             let q = p + valueAt b (p + a) w in
             let others = fieldsOps ops b p (a + w) fs ++ rest in
-            let joined : opsBy (follow k) rest ≡ ops k q ++ (link w ∷ others) = simp append-assoc in
-            let c = below .read k q (link w ∷ others) i h (rw joined at z) in
+            let joined : opsBy (follow k) rest ≡ ops a k q ++ (link w ∷ others) = simp append-assoc in
+            let c = below .read a k q .read (link w ∷ others) i h (rw joined at z) in
             let j = c .id in
             let z₁ : perform call (link w ∷ others) j (c .next) .number ≡ 0 = rw (joined, c .goes) at z in
             let t = taken (calls.link w j 0) (c .next) _ z₁ in
             let l = call (calls.link w j 0) (c .next) .next in
-            let o : l .opens ≡ linkOn w 0 (rd k q) x ∷ os = ap (λ (m : History). m .opens) (t .left) ∙ link-opens x os (c .next) (c .opens ∙ e) w j (c .here) in
-            let g = later .read (linkOn w 0 (rd k q) x) os rest j l o (omega (arith, size-link w 0 (rd k q) x)) (rw (t .goes) at z₁) in
+            let o : l .opens ≡ linkOn w 0 (rd a k q) x ∷ os = ap (λ (m : History). m .opens) (t .left) ∙ link-opens x os (c .next) (c .opens ∙ e) w j (c .here) in
+            let g = later .read (linkOn w 0 (rd a k q) x) os rest j l o (omega (arith, size-link w 0 (rd a k q) x)) (rw (t .goes) at z₁) in
             record {
               id = g .id;
               next = g .next;
               goes = ap (λ m. perform call m i h) joined ∙ c .goes ∙ t .goes ∙ g .goes;
-              opens = g .opens ∙ ap (λ r. r ∷ os) (on-link w 0 (rd k q) x _ ∙ on-same x (λ o. rw (s, append-assoc)));
+              opens = g .opens ∙ ap (λ r. r ∷ os) (on-link w 0 (rd a k q) x _ ∙ on-same x (λ o. rw (s, append-assoc)));
               keeps = keeps-then (c .keeps) (keeps-then (kept (calls.link w j 0) (c .next) (λ z. z)) (g .keeps));
             };
       }
@@ -223,7 +229,7 @@ module _ (n : Needs) (store records : ℕ) where
       }
 
   -- one that begins is open with no bytes
-  module _ (ops : Kind → ℕ → List Op) (rd : Kind → ℕ → Reading) (below : Children ops rd) (b : List ℕ) (p : ℕ) (fs : List Field) where
+  module _ (ops : ℕ → Kind → ℕ → List Op) (rd : ℕ → Kind → ℕ → Reading) (below : Children ops rd) (b : List ℕ) (p : ℕ) (fs : List Field) where
     abbrev within : List Op → List Op
     within rest = begin ∷ ((fieldsOps ops b p 0 fs ++ (end ∷ [])) ++ rest)
 
@@ -242,14 +248,15 @@ module _ (n : Needs) (store records : ℕ) where
   unfolding perform
   stopped p rest i h z = omega arith
 
-  table-children : (b : List ℕ) (d : ℕ) → Children (tableOps d b) (tableReading d b)
-  unfolding tableOps tableReading
-  table-children b zero = record { read = λ k p rest i h z. absurd (stopped p rest i h z) }
-  table-children b (suc d) = record { read = λ k p. begin-read (tableOps d b) (tableReading d b) (table-children b d) b p (fieldsAt b k p) }
+  pub mode-reads : (d : ℕ) (b : List ℕ) (m : Mode) (k : Kind) (p : ℕ) → ReadsAs (modeOps d b m k p) (modeReading d b m k p)
+  unfolding modeOps modeReading
+  mode-reads zero b m k p = record { read = λ rest i h z. absurd (stopped p rest i h z) }
+  mode-reads (suc d) b m k p = record {
+    read = begin-read _ _ (record { read = λ a j q. mode-reads d b (childMode b m p a j q) j (childPlace m p q) }) (bytesIn b m p) (placeIn m p) (fieldsAt (bytesIn b m p) k (placeIn m p));
+  }
 
-  table-read : (d : ℕ) (b : List ℕ) (k : Kind) (p : ℕ) (rest : List Op) (i : ℕ) (h : History) → perform call (tableOps d b k p ++ rest) i h .number ≡ 0
-      → Read (tableReading d b k p) rest h (perform call (tableOps d b k p ++ rest) i h)
-  table-read d b = table-children b d .read
+  pub table-reads : (d : ℕ) (b : List ℕ) (k : Kind) (p : ℕ) → ReadsAs (tableOps d b k p) (tableReading d b k p)
+  table-reads d b k p = rw (plain-ops d b, plain-reading d b) at (mode-reads d b plain k p)
 
   -- ---- a table alone, and all that lies under it
 
@@ -257,10 +264,9 @@ module _ (n : Needs) (store records : ℕ) where
     pub opens : o .next .opens ≡ h .opens
     pub known : Known r (o .id) (o .next .closed)
 
-  pub whole-read : (d : ℕ) (b : List ℕ) (k : Kind) (p i : ℕ) (h : History) → perform call (tableOps d b k p) i h .number ≡ 0
-      → Whole (tableReading d b k p) h (perform call (tableOps d b k p) i h)
+  pub whole-read : {ops : List Op} {r : Reading} → ReadsAs ops r → (i : ℕ) (h : History) → perform call ops i h .number ≡ 0 → Whole r h (perform call ops i h)
   unfolding perform
-  whole-read d b k p i h z =
-      let e : perform call (tableOps d b k p ++ []) i h ≡ perform call (tableOps d b k p) i h = ap (λ ops. perform call ops i h) (append-nil (tableOps d b k p)) in
-      let r = table-read d b k p [] i h (ap (λ o. o .number) e ∙ z) in
-      subst (λ o. Whole (tableReading d b k p) h o) (sym (r .goes) ∙ e) (record { opens = r .opens; known = r .here })
+  whole-read {ops} {r} f i h z =
+      let e : perform call (ops ++ []) i h ≡ perform call ops i h = ap (λ o. perform call o i h) (append-nil ops) in
+      let t = f .read [] i h (ap (λ o. o .number) e ∙ z) in
+      subst (λ o. Whole r h o) (sym (t .goes) ∙ e) (record { opens = t .opens; known = t .here })

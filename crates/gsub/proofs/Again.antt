@@ -20,8 +20,9 @@ use Rattle.gsub.specs.declared.Rule.{Rule}
 use Rattle.gsub.specs.declared.Rule.the-variants.{Any, Only, To, ToOrNull}
 use Rattle.gsub.specs.declared.Field.{Field}
 use Rattle.gsub.specs.Tables.{fieldsAt, wordAt}
-use Rattle.gsub.specs.Ops.{Act, keep, follow, refuse, valueAt, byRule, act, Op, begin, put, link, end, stop, actOps, fieldsOps, tableOps}
-use Rattle.gsub.specs.Meaning.{actBytes, ownBytes, actReading, fieldsReading, tableReading}
+use Rattle.gsub.specs.Ops.{Act, keep, follow, refuse, valueAt, byRule, act, Op, begin, put, link, end, stop, actOps, fieldsOps, opsBy, tableOps}
+use Rattle.gsub.specs.Meaning.{actBytes, ownBytes, actReading, fieldsReading, readingBy}
+use Rattle.gsub.specs.Promote.{Mode, bytesIn, placeIn, childMode, childPlace, modeOps, modeReading}
 use Rattle.gsub.proofs.Accepted.{act-room}
 use Rattle.gsub.proofs.Settled.{Plain, Agree, settled}
 
@@ -87,10 +88,10 @@ unfolding act
 act-rule b at f h = rw (le-leb (at + f .width) (length b) h)
 
 -- what two tables have of a field that is judged y in one of them
-module _ (opsB opsT : Kind → ℕ → List Op) (b t : List ℕ) (p q : ℕ) where
+module _ (opsB opsT : ℕ → Kind → ℕ → List Op) (b t : List ℕ) (p q : ℕ) where
   unfoldable Same : ℕ → ℕ → Act → Type 0
   Same a w keep = (part (q + a) (q + a + w) t ≡ part (p + a) (p + a + w) b) × (q + a + w ≤ length t)
-  Same a w (follow k) = (valueAt t (q + a) w ≡ 0 → ⊥) × (q + a + w ≤ length t) × (opsT k (q + valueAt t (q + a) w) ≡ opsB k (p + valueAt b (p + a) w))
+  Same a w (follow k) = (valueAt t (q + a) w ≡ 0 → ⊥) × (q + a + w ≤ length t) × (opsT a k (q + valueAt t (q + a) w) ≡ opsB a k (p + valueAt b (p + a) w))
   Same a w refuse = ⊥
 
   unfoldable Copied : ℕ → List Field → Type 0
@@ -107,7 +108,7 @@ module _ (opsB opsT : Kind → ℕ → List Op) (b t : List ℕ) (p q : ℕ) whe
       act-rule t (q + a) f (s .1) ∙ follow-again (f .rule) (valueAt b (p + a) (f .width)) _ k (sym (act-rule b (p + a) f room) ∙ e) (s .0)
   same-act a f refuse e s = absurd s
 
-  same-ops : (a w : ℕ) (y : Act) → Same a w y → actOps opsT t q a w y ≡ actOps opsB b p a w y
+  same-ops : (a w : ℕ) (y : Act) → Same a w y → actOps (opsT a) t q a w y ≡ actOps (opsB a) b p a w y
   unfolding Same actOps
   same-ops a w keep s = rw (s .0)
   same-ops a w (follow k) s = rw (s .2)
@@ -121,11 +122,11 @@ module _ (opsB opsT : Kind → ℕ → List Op) (b t : List ℕ) (p q : ℕ) whe
 
 -- ---- a reading's fields and bytes
 
-module _ (rd : Kind → ℕ → Reading) (b : List ℕ) (p : ℕ) (whole : List ℕ) where
+module _ (rd : ℕ → Kind → ℕ → Reading) (b : List ℕ) (p : ℕ) (whole : List ℕ) where
   abbrev readFrom : ℕ → List Field → Reading
   readFrom a fs = fieldsReading rd b p a fs whole
 
-  bytes-by : (a w : ℕ) (y : Act) (r : Reading) → bytesOf r ≡ whole → bytesOf (actReading rd b p a w y r) ≡ whole
+  bytes-by : (a w : ℕ) (y : Act) (r : Reading) → bytesOf r ≡ whole → bytesOf (actReading (rd a) b p a w y r) ≡ whole
   unfolding actReading bytesOf
   bytes-by a w keep r e = e
   bytes-by a w (follow k) r e = e
@@ -137,7 +138,7 @@ module _ (rd : Kind → ℕ → Reading) (b : List ℕ) (p : ℕ) (whole : List 
   bytes-of (f ∷ fs) a = bytes-by a (f .width) (act b (p + a) f) (readFrom (a + f .width) fs) (bytes-of fs (a + f .width))
 
   -- every field lies from a on
-  outside-by : (a w j : ℕ) (y : Act) (r : Reading) → j < a → Outside j r → Outside j (actReading rd b p a w y r)
+  outside-by : (a w j : ℕ) (y : Act) (r : Reading) → j < a → Outside j r → Outside j (actReading (rd a) b p a w y r)
   unfolding actReading Outside
   outside-by a w j keep r h o = o
   outside-by a w j (follow k) r h o = (inl h, o)
@@ -149,12 +150,12 @@ module _ (rd : Kind → ℕ → Reading) (b : List ℕ) (p : ℕ) (whole : List 
   outside-before (f ∷ fs) a j h = outside-by a (f .width) j (act b (p + a) f) (readFrom (a + f .width) fs) h (outside-before fs (a + f .width) j (omega arith))
 
 -- children read again
-record Children (opsB opsT : Kind → ℕ → List Op) (rd : Kind → ℕ → Reading) (t : List ℕ) : Type 0 where
-  again : (k : Kind) (x y : ℕ) → Clean (opsB k x) → Shown t y (rd k x) → opsT k y ≡ opsB k x
+record Children (opsB opsT : ℕ → Kind → ℕ → List Op) (rd : ℕ → Kind → ℕ → Reading) (t : List ℕ) : Type 0 where
+  again : (a : ℕ) (k : Kind) (x y : ℕ) → Clean (opsB a k x) → Shown t y (rd a k x) → opsT a k y ≡ opsB a k x
 
 -- ---- fields from a on of the table at p of b, which the table at q of t shows: r are the fields left, own their bytes
 
-module _ (opsB opsT : Kind → ℕ → List Op) (rd : Kind → ℕ → Reading) (b t : List ℕ) (p q : ℕ) (whole : List ℕ) (R : Reading) (holds : bytesOf R ≡ whole) (shown : Own t q R) where
+module _ (opsB opsT : ℕ → Kind → ℕ → List Op) (rd : ℕ → Kind → ℕ → Reading) (b t : List ℕ) (p q : ℕ) (whole : List ℕ) (R : Reading) (holds : bytesOf R ≡ whole) (shown : Own t q R) where
   record Stage (a : ℕ) (r : Reading) (own : List ℕ) : Type 0 where
     outside : (j : ℕ) → a ≤ j → Outside j r → Outside j R
     byte : (i : ℕ) → getD whole (a + i) 0 ≡ getD own i 0
@@ -165,7 +166,7 @@ module _ (opsB opsT : Kind → ℕ → List Op) (rd : Kind → ℕ → Reading) 
   -- one field more in front, of width w, judged y
   module _ (a w : ℕ) (r : Reading) (own : List ℕ) where
     abbrev Before : Act → Type 0
-    Before y = Stage a (actReading rd b p a w y r) (actBytes b (p + a) w y ++ own)
+    Before y = Stage a (actReading (rd a) b p a w y r) (actBytes b (p + a) w y ++ own)
 
     next-byte : (vs : List ℕ) → length vs ≡ w → ((i : ℕ) → getD whole (a + i) 0 ≡ getD (vs ++ own) i 0) → (i : ℕ) → getD whole (a + w + i) 0 ≡ getD own i 0
     next-byte vs e h i =
@@ -215,13 +216,13 @@ module _ (opsB opsT : Kind → ℕ → List Op) (rd : Kind → ℕ → Reading) 
       apart = s .apart .2;
     }
 
-    follow-same : Children opsB opsT rd t → (k : Kind) → Clean (opsB k (p + valueAt b (p + a) w)) → Before (follow k) → Same opsB opsT b t p q a w (follow k)
+    follow-same : Children opsB opsT rd t → (k : Kind) → Clean (opsB a k (p + valueAt b (p + a) w)) → Before (follow k) → Same opsB opsT b t p q a w (follow k)
     unfolding actReading FieldsShow Apart Same
     follow-same below k c s =
         let f = s .fields in
         let z = s .apart in
         let leads : q + valueAt t (q + a) w ≡ target t q (newSlot a w 0) = omega arith in
-        (z .0, f .0, ap (opsT k) leads ∙ below .again k _ _ c (record { own = f .1; fields = f .2; apart = z .1 }))
+        (z .0, f .0, ap (opsT a k) leads ∙ below .again a k _ _ c (record { own = f .1; fields = f .2; apart = z .1 }))
 
   -- what one field gives, and what is left for the others
   record Further (a w : ℕ) (r : Reading) (own : List ℕ) (rest : List Op) (y : Act) : Type 0 where
@@ -230,13 +231,13 @@ module _ (opsB opsT : Kind → ℕ → List Op) (rd : Kind → ℕ → Reading) 
     clean : Clean rest
 
   further : Children opsB opsT rd t → (a : ℕ) (f : Field) (r : Reading) (own : List ℕ) (rest : List Op) → ((j : ℕ) → j < a + f .width → Outside j r) → (y : Act) → act b (p + a) f ≡ y
-      → Clean (actOps opsB b p a (f .width) y ++ rest) → Before a (f .width) r own y → Further a (f .width) r own rest y
+      → Clean (actOps (opsB a) b p a (f .width) y ++ rest) → Before a (f .width) r own y → Further a (f .width) r own rest y
   unfolding actOps Clean
   further below a f r own rest o keep e c s =
       let room = act-room b (p + a) f (λ x. let z : _≡_ {A = ℕ} 0 1 = cc in omega arith) in
       record { same = keep-same a (f .width) r own room o s; stage = keep-next a (f .width) r own room s; clean = c }
   further below a f r own rest o (follow k) e c s =
-      let child = opsB k (p + valueAt b (p + a) (f .width)) in
+      let child = opsB a k (p + valueAt b (p + a) (f .width)) in
       let both = clean-left (child ++ (link (f .width) ∷ [])) rest c in
       record {
         same = follow-same a (f .width) r own below k (clean-left child (link (f .width) ∷ []) both) s;
@@ -255,7 +256,7 @@ module _ (opsB opsT : Kind → ℕ → List Op) (rd : Kind → ℕ → Reading) 
 
 -- ---- the same fields
 
-module _ (opsB opsT : Kind → ℕ → List Op) (b t : List ℕ) (p q : ℕ) where
+module _ (opsB opsT : ℕ → Kind → ℕ → List Op) (b t : List ℕ) (p q : ℕ) where
   same-word : (a : ℕ) → part (q + a) (q + a + 2) t ≡ part (p + a) (p + a + 2) b → wordAt b (p + a) ≡ wordAt t (q + a)
   same-word a e =
       let none : (c : ℕ) → c + 0 ≡ c = λ c. omega arith in
@@ -295,7 +296,7 @@ module _ (opsB opsT : Kind → ℕ → List Op) (b t : List ℕ) (p q : ℕ) whe
 -- ---- a whole table
 
 module _ (b t : List ℕ) where
-  fields-again : (opsB opsT : Kind → ℕ → List Op) (rd : Kind → ℕ → Reading) → Children opsB opsT rd t → (p q : ℕ) (fs : List Field) → Clean (fieldsOps opsB b p 0 fs)
+  fields-again : (opsB opsT : ℕ → Kind → ℕ → List Op) (rd : ℕ → Kind → ℕ → Reading) → Children opsB opsT rd t → (p q : ℕ) (fs : List Field) → Clean (fieldsOps opsB b p 0 fs)
       → Shown t q (fieldsReading rd b p 0 fs (ownBytes b p 0 fs)) → Copied opsB opsT b t p q 0 fs
   fields-again opsB opsT rd below p q fs c s =
       let whole = ownBytes b p 0 fs in
@@ -308,7 +309,7 @@ module _ (b t : List ℕ) where
         apart = s .apart;
       })
 
-  table-again : (opsB opsT : Kind → ℕ → List Op) (rd : Kind → ℕ → Reading) → Children opsB opsT rd t → (k : Kind) (p q : ℕ) → Clean (fieldsOps opsB b p 0 (fieldsAt b k p))
+  table-again : (opsB opsT : ℕ → Kind → ℕ → List Op) (rd : ℕ → Kind → ℕ → Reading) → Children opsB opsT rd t → (k : Kind) (p q : ℕ) → Clean (fieldsOps opsB b p 0 (fieldsAt b k p))
       → Shown t q (fieldsReading rd b p 0 (fieldsAt b k p) (ownBytes b p 0 (fieldsAt b k p)))
       → fieldsOps opsT t q 0 (fieldsAt t k q) ≡ fieldsOps opsB b p 0 (fieldsAt b k p)
   table-again opsB opsT rd below k p q c s =
@@ -317,17 +318,18 @@ module _ (b t : List ℕ) where
       let fields : fs ≡ fieldsAt t k q = settled _ _ k (copied-agree opsB opsT b t p q fs 0 same) in
       rw (← fields) (copied-ops opsB opsT b t p q fs 0 same)
 
-  children-again : (d : ℕ) → Children (tableOps d b) (tableOps d t) (tableReading d b) t
-  unfolding tableOps tableReading Clean
-  children-again zero = record { again = λ k p q c s. absurd c }
-  children-again (suc d) = record {
-    again = λ k p q c s.
-        ap (λ ops. begin ∷ (ops ++ (end ∷ [])))
-        (table-again (tableOps d b) (tableOps d t) (tableReading d b) (children-again d) k p q (clean-left (fieldsOps (tableOps d b) b p 0 (fieldsAt b k p)) (end ∷ []) c) s);
-  }
+  again-by : {opsB : ℕ → Kind → ℕ → List Op} {rd : ℕ → Kind → ℕ → Reading} (d : ℕ) → Children opsB (λ a. tableOps d t) rd t → (k : Kind) (p q : ℕ) → Clean (opsBy opsB b k p)
+      → Shown t q (readingBy rd b k p) → tableOps (suc d) t k q ≡ opsBy opsB b k p
+  unfolding tableOps Clean
+  again-by {opsB} {rd} d below k p q c s =
+      ap (λ ops. begin ∷ (ops ++ (end ∷ []))) (table-again opsB (λ a. tableOps d t) rd below k p q (clean-left (fieldsOps opsB b p 0 (fieldsAt b k p)) (end ∷ []) c) s)
 
-  pub ops-again : (d : ℕ) (k : Kind) (p q : ℕ) → Clean (tableOps d b k p) → Shown t q (tableReading d b k p) → tableOps d t k q ≡ tableOps d b k p
-  ops-again d = children-again d .again
+-- a table that was read in any mode is read again as it stands
+pub mode-again : (b t : List ℕ) (d : ℕ) (m : Mode) (k : Kind) (p q : ℕ) → Clean (modeOps d b m k p) → Shown t q (modeReading d b m k p) → tableOps d t k q ≡ modeOps d b m k p
+unfolding modeOps modeReading Clean
+mode-again b t zero m k p q c s = absurd c
+mode-again b t (suc d) m k p q c s =
+    again-by (bytesIn b m p) t d (record { again = λ a j x y. mode-again b t d (childMode b m p a j x) j (childPlace m p x) y }) k (placeIn m p) q c s
 
 -- ---- the offsets of a table that was read have a width, since they are not zero
 
@@ -357,19 +359,22 @@ follow-wide b at f k e = go (f .width) refl
     go (suc w) z = omega arith
 
 module _ (b : List ℕ) where
-  wide-by : (rd : Kind → ℕ → Reading) (p a : ℕ) (f : Field) (r : Reading) → ((k : Kind) (q : ℕ) → Wide (rd k q)) → Wide r → (y : Act) → act b (p + a) f ≡ y
-      → Wide (actReading rd b p a (f .width) y r)
+  wide-by : (rd : ℕ → Kind → ℕ → Reading) (p a : ℕ) (f : Field) (r : Reading) → ((a : ℕ) (k : Kind) (q : ℕ) → Wide (rd a k q)) → Wide r → (y : Act) → act b (p + a) f ≡ y
+      → Wide (actReading (rd a) b p a (f .width) y r)
   unfolding actReading Wide
   wide-by rd p a f r below h keep e = h
-  wide-by rd p a f r below h (follow k) e = (follow-wide b (p + a) f k e, below k _, h)
+  wide-by rd p a f r below h (follow k) e = (follow-wide b (p + a) f k e, below a k _, h)
   wide-by rd p a f r below h refuse e = h
 
-  wide-fields : (rd : Kind → ℕ → Reading) → ((k : Kind) (q : ℕ) → Wide (rd k q)) → (p : ℕ) (whole : List ℕ) (fs : List Field) (a : ℕ) → Wide (fieldsReading rd b p a fs whole)
+  wide-fields : (rd : ℕ → Kind → ℕ → Reading) → ((a : ℕ) (k : Kind) (q : ℕ) → Wide (rd a k q)) → (p : ℕ) (whole : List ℕ) (fs : List Field) (a : ℕ) → Wide (fieldsReading rd b p a fs whole)
   unfolding fieldsReading Wide
   wide-fields rd below p whole [] a = tt
   wide-fields rd below p whole (f ∷ fs) a = wide-by rd p a f (fieldsReading rd b p (a + f .width) fs whole) below (wide-fields rd below p whole fs (a + f .width)) (act b (p + a) f) refl
 
-  pub wide-table : (d : ℕ) (k : Kind) (p : ℕ) → Wide (tableReading d b k p)
-  unfolding tableReading Wide
-  wide-table zero k p = tt
-  wide-table (suc d) k p = wide-fields (tableReading d b) (wide-table d) p (ownBytes b p 0 (fieldsAt b k p)) (fieldsAt b k p) 0
+pub wide-mode : (d : ℕ) (b : List ℕ) (m : Mode) (k : Kind) (p : ℕ) → Wide (modeReading d b m k p)
+unfolding modeReading Wide
+wide-mode zero b m k p = tt
+wide-mode (suc d) b m k p =
+    let l = bytesIn b m p in
+    let fs = fieldsAt l k (placeIn m p) in
+    wide-fields l _ (λ a j q. wide-mode d b (childMode b m p a j q) j (childPlace m p q)) (placeIn m p) (ownBytes l (placeIn m p) 0 fs) fs 0

@@ -1,4 +1,4 @@
--- The small tables are told and substituted as counted by hand.
+-- The small tables are told, substituted and promoted as counted by hand.
 use mathlib.Core.Path.{_≡_, refl}
 use mathlib.Core.Bool.{true}
 use Rattle.lists.specs.Lists.{sameList, holds, total, firstThat}
@@ -8,16 +8,23 @@ use Rattle.model.specs.Judge.{verdict}
 use Rattle.model_orders.specs.Reading.{bytesOf, fieldCount, slotsIn, sameReading}
 use Rattle.model.specs.History.{putOn, fieldOn, judged, accept, after, idTold, expected}
 use Rattle.steps.specs.Runs.{asCall}
+use Rattle.gsub.specs.declared.Kind.the-variants.{Header}
 use Rattle.gsub.specs.Tables.{fieldsOf, shape, times, size, often, laid}
 use Rattle.gsub.specs.Ops.{byRule, act, actOps, fieldsOps, tableOps, perform}
-use Rattle.gsub.specs.Meaning.{actBytes, ownBytes, actReading, fieldsReading, tableReading}
-use Rattle.gsub.specs.Substitute.{inGlyphs, inRanges, coverageIndex, bySubtables, substituteIn, childOf}
-use Rattle.gsub.specs.Cases.{readIn, told, allTold, cases, given, allGiven, substitutions}
+use Rattle.gsub.specs.Meaning.{actBytes, ownBytes, actReading, fieldsReading, tableReading, deepest}
+use Rattle.gsub.specs.Promote.{byKind, modeOps, trialOps}
+use Rattle.gsub.specs.Substitute.{inGlyphs, inRanges, coverageIndex, subtable, bySubtables, substituteIn, childOf}
+use Rattle.gsub.specs.Cases.{small, extended, listed, listed2, readIn, told, allTold, cases, given, allGiven, substitutions}
 
 pub all-told : allTold cases ≡ true
 unfolding allTold told readIn perform tableOps fieldsOps actOps act byRule fieldsOf shape laid often size times asCall expected after judged accept idTold putOn fieldOn verdict holds total firstThat readFrom sameList sameReading bytesOf fieldCount slotsIn anyHopeless
 all-told = refl
 
 pub all-given : allGiven substitutions ≡ true
-unfolding allGiven given substituteIn bySubtables coverageIndex inGlyphs inRanges childOf bytesOf tableReading fieldsReading actReading ownBytes actBytes act byRule fieldsOf shape laid often size times readFrom
+unfolding allGiven given substituteIn bySubtables subtable coverageIndex inGlyphs inRanges childOf bytesOf tableReading fieldsReading actReading ownBytes actBytes act byRule fieldsOf shape laid often size times readFrom
 all-given = refl
+
+-- a table with its last lookups promoted is written as one is read in which they stand so: its only one; one of type 7, which is left alone; a lookup named twice, at its second place
+pub all-promoted : (trialOps 1 small ≡ tableOps deepest extended Header 0) × (trialOps 1 listed ≡ tableOps deepest listed Header 0) × (trialOps 2 listed ≡ tableOps deepest listed2 Header 0)
+unfolding modeOps byKind tableOps fieldsOps actOps act byRule fieldsOf shape laid often size times readFrom
+all-promoted = (refl, refl, refl)

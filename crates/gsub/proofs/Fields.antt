@@ -7,9 +7,9 @@ use lib.Dec.{eqb}
 use Rattle.lists.specs.Lists.{pick}
 use Rattle.lists.proofs.Same.{and-left, and-right}
 use Rattle.gsub.specs.declared.Kind.{Kind}
-use Rattle.gsub.specs.declared.Kind.the-variants.{Header, ScriptList, Script, LangSys, FeatureList, Feature, LookupList, Lookup, SingleSubst, Coverage}
+use Rattle.gsub.specs.declared.Kind.the-variants.{Header, ScriptList, Script, LangSys, FeatureList, Feature, LookupList, Lookup, Extension, SingleSubst, Coverage}
 use Rattle.gsub.specs.declared.Field.{Field}
-use Rattle.gsub.specs.Tables.{Run, laid, often, size, shape, times, fieldsOf, singleSubst1, singleSubst2, coverage1, coverage2}
+use Rattle.gsub.specs.Tables.{Run, Shape, laid, often, size, shape, times, fieldsOf, lookup1, lookup7, singleSubst1, singleSubst2, coverage1, coverage2}
 
 pub both : {a b : Bool} → a ≡ true → b ≡ true → (a && b) ≡ true
 both e f = rw (e, f)
@@ -48,23 +48,21 @@ pub record First (fs : List Field) : Type 0 where
   pub others : List Field
   pub whole : fs ≡ first ∷ others
 
-pub has-first : (k : Kind) (w : ℕ → ℕ) → First (fieldsOf k w)
-unfolding fieldsOf shape laid often times
-has-first Header w = record { first = _; others = _; whole = refl }
-has-first ScriptList w = record { first = _; others = _; whole = refl }
-has-first Script w = record { first = _; others = _; whole = refl }
-has-first LangSys w = record { first = _; others = _; whole = refl }
-has-first FeatureList w = record { first = _; others = _; whole = refl }
-has-first Feature w = record { first = _; others = _; whole = refl }
-has-first LookupList w = record { first = _; others = _; whole = refl }
-has-first Lookup w = record { first = _; others = _; whole = refl }
-has-first SingleSubst w = go (eqb (w 0) 1)
-  where
-    go : (t : Bool) → First (laid w 0 (pick t singleSubst1 singleSubst2))
-    go true = record { first = _; others = _; whole = refl }
-    go false = record { first = _; others = _; whole = refl }
-has-first Coverage w = go (eqb (w 0) 1)
-  where
-    go : (t : Bool) → First (laid w 0 (pick t coverage1 coverage2))
-    go true = record { first = _; others = _; whole = refl }
-    go false = record { first = _; others = _; whole = refl }
+module _ (w : ℕ → ℕ) where
+  two-first : (t : Bool) (m n : Shape) → First (laid w 0 m) → First (laid w 0 n) → First (laid w 0 (pick t m n))
+  two-first true m n f g = f
+  two-first false m n f g = g
+
+  pub has-first : (k : Kind) → First (fieldsOf k w)
+  unfolding fieldsOf shape laid often times
+  has-first Header = record { first = _; others = _; whole = refl }
+  has-first ScriptList = record { first = _; others = _; whole = refl }
+  has-first Script = record { first = _; others = _; whole = refl }
+  has-first LangSys = record { first = _; others = _; whole = refl }
+  has-first FeatureList = record { first = _; others = _; whole = refl }
+  has-first Feature = record { first = _; others = _; whole = refl }
+  has-first LookupList = record { first = _; others = _; whole = refl }
+  has-first Lookup = two-first (eqb (w 0) 1) lookup1 lookup7 (record { first = _; others = _; whole = refl }) (record { first = _; others = _; whole = refl })
+  has-first Extension = record { first = _; others = _; whole = refl }
+  has-first SingleSubst = two-first (eqb (w 0) 1) singleSubst1 singleSubst2 (record { first = _; others = _; whole = refl }) (record { first = _; others = _; whole = refl })
+  has-first Coverage = two-first (eqb (w 0) 1) coverage1 coverage2 (record { first = _; others = _; whole = refl }) (record { first = _; others = _; whole = refl })

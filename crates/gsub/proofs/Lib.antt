@@ -1,4 +1,6 @@
 pub mod Cases
+pub mod Plain
+pub mod Changed
 pub mod Grows
 pub mod Accepted
 pub mod Lifts
@@ -7,6 +9,8 @@ pub mod Again
 pub mod Round
 pub mod Places
 pub mod Substitutes
+pub mod Promoted
+pub mod Unpromoted
 pub mod Fields
 pub mod Depth
 pub mod Refusals

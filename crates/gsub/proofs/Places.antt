@@ -15,15 +15,15 @@ use Rattle.lists.proofs.Parts.{getD-part}
 use Rattle.lists.proofs.Runs.{length-part, part-first}
 use Rattle.lists.proofs.Same.{and-left, and-right}
 use Rattle.big_endian.specs.BigEndian.{readFrom}
-use Rattle.model_orders.specs.Reading.{Reading, field}
+use Rattle.model_orders.specs.Reading.{Reading}
 use Rattle.gsub.specs.declared.Kind.{Kind}
 use Rattle.gsub.specs.declared.Rule.{Rule}
 use Rattle.gsub.specs.declared.Rule.the-variants.{Any, Only, To, ToOrNull}
 use Rattle.gsub.specs.declared.Field.{Field}
-use Rattle.gsub.specs.Tables.{offset16, Run, one, many, often, laid, times, size, wordAt, fieldsAt}
-use Rattle.gsub.specs.Ops.{Act, keep, follow, refuse, valueAt, byRule, act, Op, link, end, actOps, fieldsOps, tableOps}
-use Rattle.gsub.specs.Meaning.{actBytes, ownBytes, actReading, fieldsReading, tableReading}
-use Rattle.gsub.specs.Substitute.{wordOf, childOf, wordFrom}
+use Rattle.gsub.specs.Tables.{offset16, offset32, Run, one, many, often, laid, times, size, wordAt, longAt, fieldsAt}
+use Rattle.gsub.specs.Ops.{Act, keep, follow, refuse, valueAt, byRule, act, Op, link, end, actOps, fieldsOps, opsBy}
+use Rattle.gsub.specs.Meaning.{actBytes, ownBytes, actReading, fieldsReading, readingBy}
+use Rattle.gsub.specs.Substitute.{wordOf, childOf, wordFrom, childFrom, farFrom}
 use Rattle.gsub.proofs.Accepted.{act-room}
 use Rattle.gsub.proofs.Again.{Clean, clean-left, clean-right, bytes-of}
 
@@ -89,6 +89,10 @@ module _ (P : Field → Type 0) where
     in-run each rs i d x w v h l e =
         rw (laid-front, laid-run, e) (from-later front _ (i * size each + d) w (from-times each _ d v h (word (size front - 2)) i l))
 
+-- an offset of w bytes
+abbrev offset : ℕ → Kind → Field
+offset w k = record { width = w; rule = To k }
+
 -- ---- numbers in plain fields
 
 unfoldable pub PlainRule : Rule → Type 0
@@ -101,7 +105,7 @@ PlainRule (ToOrNull k) = ⊥
 abbrev pub Plain : Field → Type 0
 Plain f = (f .width ≡ 2) × PlainRule (f .rule)
 
-plain-stays : (r : Rule) → PlainRule r → (t : Bool) (v : ℕ) (k : Kind) → pick t (byRule r v) refuse ≡ follow k → ⊥
+pub plain-stays : (r : Rule) → PlainRule r → (t : Bool) (v : ℕ) (k : Kind) → pick t (byRule r v) refuse ≡ follow k → ⊥
 unfolding PlainRule byRule
 plain-stays Any h true v k e = let z : _≡_ {A = ℕ} 0 1 = cc in omega arith
 plain-stays Any h false v k e = let z : _≡_ {A = ℕ} 0 1 = cc in omega arith
@@ -137,22 +141,30 @@ value-word b at h =
     let none : at + 2 - (at + 1 + 1) ≡ 0 = omega arith in
     rw (part-first at (at + 2) b (omega arith) h, part-first (at + 1) (at + 2) b (omega arith) h, none) (omega arith)
 
-module _ (ops : Kind → ℕ → List Op) (b : List ℕ) (p : ℕ) where
+value-long : (b : List ℕ) (at : ℕ) → at + 4 ≤ length b → valueAt b at 4 ≡ longAt b at
+unfolding readFrom
+value-long b at h =
+    let none : at + 4 - (at + 1 + 1 + 1 + 1) ≡ 0 = omega arith in
+    let two : at + 1 + 1 ≡ at + 2 = omega arith in
+    let e = part-first at (at + 4) b (omega arith) h in
+    rw (e, part-first (at + 1) (at + 4) b (omega arith) h, part-first (at + 1 + 1) (at + 4) b (omega arith) h, part-first (at + 1 + 1 + 1) (at + 4) b (omega arith) h, none, two) (omega arith)
+
+module _ (ops : ℕ → Kind → ℕ → List Op) (b : List ℕ) (p : ℕ) where
   -- a field that is not refused, judged y, before ops `rest`
   module _ (a : ℕ) (f : Field) (rest : List Op) where
-    room : (y : Act) → act b (p + a) f ≡ y → Clean (actOps ops b p a (f .width) y ++ rest) → p + a + f .width ≤ length b
+    room : (y : Act) → act b (p + a) f ≡ y → Clean (actOps (ops a) b p a (f .width) y ++ rest) → p + a + f .width ≤ length b
     unfolding actOps Clean
     room keep e c = act-room b (p + a) f (λ r. let z : _≡_ {A = ℕ} 0 1 = cc in omega arith)
     room (follow k) e c = act-room b (p + a) f (λ r. let z : _≡_ {A = ℕ} 0 1 = cc in omega arith)
     room refuse e c = absurd c
 
-    long : (y : Act) → act b (p + a) f ≡ y → Clean (actOps ops b p a (f .width) y ++ rest) → length (actBytes b (p + a) (f .width) y) ≡ f .width
+    long : (y : Act) → act b (p + a) f ≡ y → Clean (actOps (ops a) b p a (f .width) y ++ rest) → length (actBytes b (p + a) (f .width) y) ≡ f .width
     unfolding actOps actBytes Clean
     long keep e c = omega (arith, length-part (p + a) (p + a + f .width) b (room keep e c))
     long (follow k) e c = length-replicate (f .width) 0
     long refuse e c = absurd c
 
-    word-here : (own : List ℕ) → Plain f → (y : Act) → act b (p + a) f ≡ y → Clean (actOps ops b p a (f .width) y ++ rest) → wordAt (actBytes b (p + a) (f .width) y ++ own) 0 ≡ wordAt b (p + a)
+    word-here : (own : List ℕ) → Plain f → (y : Act) → act b (p + a) f ≡ y → Clean (actOps (ops a) b p a (f .width) y ++ rest) → wordAt (actBytes b (p + a) (f .width) y ++ own) 0 ≡ wordAt b (p + a)
     unfolding actOps actBytes Clean act
     word-here own h keep e c = rw (h .0) (word-first b own (p + a) (rw (h .0) at (room keep e c)))
     word-here own h (follow k) e c = absurd (plain-stays (f .rule) (h .1) (leb (p + a + f .width) (length b)) (valueAt b (p + a) (f .width)) k e)
@@ -164,7 +176,7 @@ module _ (ops : Kind → ℕ → List Op) (b : List ℕ) (p : ℕ) where
   words-same (f ∷ fs) a x c h =
       let y = act b (p + a) f in
       let rest = fieldsOps ops b p (a + f .width) fs in
-      go (eqb x 0) refl h (words-same fs (a + f .width) (x - f .width) (clean-right (actOps ops b p a (f .width) y) rest c))
+      go (eqb x 0) refl h (words-same fs (a + f .width) (x - f .width) (clean-right (actOps (ops a) b p a (f .width) y) rest c))
     where
       own : List ℕ
       own = ownBytes b p (a + f .width) fs
@@ -184,85 +196,89 @@ module _ (ops : Kind → ℕ → List Op) (b : List ℕ) (p : ℕ) where
 
   -- ---- children of offsets
 
-  module _ (rd : Kind → ℕ → Reading) where
-    -- from byte x of the table on stands an offset to a table of kind k: r has that table's reading there, and it is read without refusal 15
-    pub record Leads (k : Kind) (x : ℕ) (r : Reading) : Type 0 where
-      pub reading : childOf r x ≡ rd k (p + wordAt b (p + x))
-      pub clean : Clean (ops k (p + wordAt b (p + x)))
+  module _ (rd : ℕ → Kind → ℕ → Reading) where
+    -- from byte x of the table on stands an offset of w bytes to a table of kind k at q: r has that table's reading there, and it is read without refusal 15
+    pub record Leads (w : ℕ) (k : Kind) (x q : ℕ) (r : Reading) : Type 0 where
+      pub reading : childOf r x ≡ rd x k q
+      pub clean : Clean (ops x k q)
+      pub room : p + x + w ≤ length b
 
     offset-kind : (t u : Bool) (k : Kind) (y : Act) → pick t (pick u refuse (follow k)) refuse ≡ y → (y ≡ refuse) ⊎ (y ≡ follow k)
     offset-kind true true k y e = inl (sym e)
     offset-kind true false k y e = inr (sym e)
     offset-kind false u k y e = inl (sym e)
 
-    module _ (a : ℕ) (k : Kind) (r : Reading) (rest : List Op) where
-      abbrev value : ℕ
-      value = p + valueAt b (p + a) 2
+    abbrev valueOf : ℕ → ℕ → ℕ
+    valueOf a w = p + valueAt b (p + a) w
 
-      leads-follow : p + a + 2 ≤ length b → Clean (actOps ops b p a 2 (follow k) ++ rest) → Leads k a (actReading rd b p a 2 (follow k) r)
+    module _ (a w : ℕ) (k : Kind) (r : Reading) (rest : List Op) where
+      leads-follow : p + a + w ≤ length b → Clean (actOps (ops a) b p a w (follow k) ++ rest) → Leads w k a (valueOf a w) (actReading (rd a) b p a w (follow k) r)
       unfolding actOps actReading childOf
       leads-follow h c =
-          let both = clean-left (ops k value ++ (link 2 ∷ [])) rest c in
-          let e = value-word b (p + a) h in
-          record { reading = rw (eq-eqb a a refl, e); clean = rw e at (clean-left (ops k value) (link 2 ∷ []) both) }
+          let both = clean-left (ops a k (valueOf a w) ++ (link w ∷ [])) rest c in
+          record { reading = rw (eq-eqb a a refl); clean = clean-left (ops a k (valueOf a w)) (link w ∷ []) both; room = h }
 
-      leads-refuse : Clean (actOps ops b p a 2 refuse ++ rest) → ⊥
+      leads-refuse : Clean (actOps (ops a) b p a w refuse ++ rest) → ⊥
       unfolding actOps Clean
       leads-refuse c = c
 
-      leads-here : (y : Act) → act b (p + a) (offset16 k) ≡ y → Clean (actOps ops b p a 2 y ++ rest) → Leads k a (actReading rd b p a 2 y r)
+      leads-here : (y : Act) → act b (p + a) (offset w k) ≡ y → Clean (actOps (ops a) b p a w y ++ rest) → Leads w k a (valueOf a w) (actReading (rd a) b p a w y r)
       unfolding act byRule
       leads-here y e c =
-          let h = room a (offset16 k) rest y e c in
-          ⊎-elim (λ z. absurd (leads-refuse (rw z at c))) (λ z. rw z (leads-follow h (rw z at c))) (offset-kind (leb (p + a + 2) (length b)) (eqb (valueAt b (p + a) 2) 0) k y e)
+          let h = room a (offset w k) rest y e c in
+          ⊎-elim (λ z. absurd (leads-refuse (rw z at c))) (λ z. rw z (leads-follow h (rw z at c))) (offset-kind (leb (p + a + w) (length b)) (eqb (valueAt b (p + a) w) 0) k y e)
 
-    leads-later : (a w x : ℕ) (k : Kind) (r : Reading) → (a ≡ x → ⊥) → Leads k x r → (y : Act) → Leads k x (actReading rd b p a w y r)
+    leads-later : (a v w x q : ℕ) (k : Kind) (r : Reading) → (a ≡ x → ⊥) → Leads w k x q r → (y : Act) → Leads w k x q (actReading (rd a) b p a v y r)
     unfolding actReading childOf
-    leads-later a w x k r n l keep = l
-    leads-later a w x k r n l (follow j) = record { reading = rw (ne-eqb a x n) (l .reading); clean = l .clean }
-    leads-later a w x k r n l refuse = l
+    leads-later a v w x q k r n l keep = l
+    leads-later a v w x q k r n l (follow j) = record { reading = rw (ne-eqb a x n) (l .reading); clean = l .clean; room = l .room }
+    leads-later a v w x q k r n l refuse = l
 
-    leads : (whole : List ℕ) (fs : List Field) (a x : ℕ) (k : Kind) → Clean (fieldsOps ops b p a fs) → From (λ f. f ≡ offset16 k) x fs → Leads k (a + x) (fieldsReading rd b p a fs whole)
+    leads : (whole : List ℕ) (w : ℕ) (fs : List Field) (a x : ℕ) (k : Kind) → Clean (fieldsOps ops b p a fs) → From (λ f. f ≡ offset w k) x fs → Leads w k (a + x) (valueOf (a + x) w) (fieldsReading rd b p a fs whole)
     unfolding From fieldsOps fieldsReading
-    leads whole [] a x k c h = absurd h
-    leads whole (f ∷ fs) a x k c h =
+    leads whole w [] a x k c h = absurd h
+    leads whole w (f ∷ fs) a x k c h =
         let rest = fieldsOps ops b p (a + f .width) fs in
-        go (eqb x 0) refl h (leads whole fs (a + f .width) (x - f .width) k (clean-right (actOps ops b p a (f .width) (act b (p + a) f)) rest c))
+        go (eqb x 0) refl h (leads whole w fs (a + f .width) (x - f .width) k (clean-right (actOps (ops a) b p a (f .width) (act b (p + a) f)) rest c))
       where
         later-reading : Reading
         later-reading = fieldsReading rd b p (a + f .width) fs whole
 
-        here : (g : Field) → g ≡ offset16 k → Clean (actOps ops b p a (g .width) (act b (p + a) g) ++ fieldsOps ops b p (a + f .width) fs)
-            → Leads k a (actReading rd b p a (g .width) (act b (p + a) g) later-reading)
-        here g e c = rw e (leads-here a k later-reading (fieldsOps ops b p (a + f .width) fs) (act b (p + a) (offset16 k)) refl (rw e at c))
+        here : (g : Field) → g ≡ offset w k → Clean (actOps (ops a) b p a (g .width) (act b (p + a) g) ++ fieldsOps ops b p (a + f .width) fs)
+            → Leads w k a (valueOf a w) (actReading (rd a) b p a (g .width) (act b (p + a) g) later-reading)
+        here g e c = rw e (leads-here a w k later-reading (fieldsOps ops b p (a + f .width) fs) (act b (p + a) (offset w k)) refl (rw e at c))
 
-        go : (t : Bool) → eqb x 0 ≡ t → pick t (f ≡ offset16 k) ((f .width ≤ x) × From (λ f. f ≡ offset16 k) (x - f .width) fs)
-            → (From (λ f. f ≡ offset16 k) (x - f .width) fs → Leads k (a + f .width + (x - f .width)) later-reading)
-            → Leads k (a + x) (actReading rd b p a (f .width) (act b (p + a) f) later-reading)
+        go : (t : Bool) → eqb x 0 ≡ t → pick t (f ≡ offset w k) ((f .width ≤ x) × From (λ f. f ≡ offset w k) (x - f .width) fs)
+            → (From (λ f. f ≡ offset w k) (x - f .width) fs → Leads w k (a + f .width + (x - f .width)) (valueOf (a + f .width + (x - f .width)) w) later-reading)
+            → Leads w k (a + x) (valueOf (a + x) w) (actReading (rd a) b p a (f .width) (act b (p + a) f) later-reading)
         go true e h later =
             let q : a + x ≡ a = omega (arith, eqb-true x 0 e) in
             rw q (here f h c)
         go false e h later =
             let q : a + f .width + (x - f .width) ≡ a + x = omega (arith, h .0) in
-            leads-later a (f .width) (a + x) k later-reading (λ z. eqb-false x 0 e (omega arith)) (rw q at (later (h .1))) (act b (p + a) f)
+            leads-later a (f .width) w (a + x) (valueOf (a + x) w) k later-reading (λ z. eqb-false x 0 e (omega arith)) (rw q at (later (h .1))) (act b (p + a) f)
 
--- ---- a whole table
+-- ---- a whole table, given what its children do
 
-module _ (b : List ℕ) (d : ℕ) (k : Kind) (p : ℕ) (c : Clean (tableOps (suc d) b k p)) where
+module _ (ops : ℕ → Kind → ℕ → List Op) (rd : ℕ → Kind → ℕ → Reading) (b : List ℕ) (k : Kind) (p : ℕ) (c : Clean (opsBy ops b k p)) where
   abbrev fs : List Field
   fs = fieldsAt b k p
 
-  clean-fields : Clean (fieldsOps (tableOps d b) b p 0 fs)
-  unfolding tableOps Clean
-  clean-fields = clean-left (fieldsOps (tableOps d b) b p 0 fs) (end ∷ []) c
+  clean-fields : Clean (fieldsOps ops b p 0 fs)
+  unfolding Clean
+  clean-fields = clean-left (fieldsOps ops b p 0 fs) (end ∷ []) c
 
-  pub table-word : (x : ℕ) → From Plain x fs → wordOf (tableReading (suc d) b k p) x ≡ wordFrom b p x
-  unfolding tableReading
+  pub table-word : (x : ℕ) → From Plain x fs → wordOf (readingBy rd b k p) x ≡ wordFrom b p x
   table-word x h =
-      ap (λ l. wordAt l x) (bytes-of (tableReading d b) b p (ownBytes b p 0 fs) fs 0)
-      ∙ words-same (tableOps d b) b p fs 0 x clean-fields h
+      ap (λ l. wordAt l x) (bytes-of rd b p (ownBytes b p 0 fs) fs 0)
+      ∙ words-same ops b p fs 0 x clean-fields h
       ∙ ap (λ z. wordAt b (p + z)) (zero-add x)
 
-  pub table-child : (x : ℕ) (j : Kind) → From (λ f. f ≡ offset16 j) x fs → Leads (tableOps d b) b p (tableReading d b) j x (tableReading (suc d) b k p)
-  unfolding tableReading
-  table-child x j h = rw zero-add at (leads (tableOps d b) b p (tableReading d b) (ownBytes b p 0 fs) fs 0 x j clean-fields h)
+  leads-to : (w x : ℕ) (j : Kind) → From (λ f. f ≡ offset w j) x fs → Leads ops b p rd w j x (p + valueAt b (p + x) w) (readingBy rd b k p)
+  leads-to w x j h = rw zero-add at (leads ops b p rd (ownBytes b p 0 fs) w fs 0 x j clean-fields h)
+
+  pub table-child : (x : ℕ) (j : Kind) → From (λ f. f ≡ offset16 j) x fs → Leads ops b p rd 2 j x (childFrom b p x) (readingBy rd b k p)
+  table-child x j h = let l = leads-to 2 x j h in rw (value-word b (p + x) (l .room)) at l
+
+  pub table-far : (x : ℕ) (j : Kind) → From (λ f. f ≡ offset32 j) x fs → Leads ops b p rd 4 j x (farFrom b p x) (readingBy rd b k p)
+  table-far x j h = let l = leads-to 4 x j h in rw (value-long b (p + x) (l .room)) at l

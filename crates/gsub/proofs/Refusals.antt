@@ -105,7 +105,7 @@ module _ (b : List ℕ) where
             record { kind = k; table = p; met = met; at = a; field = f; stands = s; place-is = q; bad = rw q (refused-bad b (p + a) f e) }
         go (inr i) = absurd (List·Memᴰ·not-nil i)
 
-    fields-bad : (fs : List Field) (a : ℕ) → ((f : Field) (c : ℕ) → FieldAt f c fs → FieldAt f (a + c) (fieldsAt b k p)) → allWithin n fs ≡ true → Has (stop place) (fieldsOps (tableOps n b) b p a fs) → BadAt b place
+    fields-bad : (fs : List Field) (a : ℕ) → ((f : Field) (c : ℕ) → FieldAt f c fs → FieldAt f (a + c) (fieldsAt b k p)) → allWithin n fs ≡ true → Has (stop place) (fieldsOps (λ a. tableOps n b) b p a fs) → BadAt b place
     unfolding fieldsOps
     fields-bad [] a s h m = absurd (List·Memᴰ·not-nil m)
     fields-bad (f ∷ fs) a s h m =
@@ -116,7 +116,7 @@ module _ (b : List ℕ) where
         (List·Memᴰ·append-cases (actOps (tableOps n b) b p a (f .width) (act b (p + a) f)) m)
       where
         Later : Type 0
-        Later = Has (stop place) (fieldsOps (tableOps n b) b p (a + f .width) fs)
+        Later = Has (stop place) (fieldsOps (λ a. tableOps n b) b p (a + f .width) fs)
 
         go : (Later → BadAt b place) → Has (stop place) (actOps (tableOps n b) b p a (f .width) (act b (p + a) f)) ⊎ Later → BadAt b place
         go later (inl i) = let z : a + 0 ≡ a = omega arith in act-bad a f (rw z at (s f 0 here)) (and-left (within n (f .rule)) _ h) (act b (p + a) f) refl i
@@ -130,7 +130,7 @@ module _ (b : List ℕ) where
       go (fields-bad n k p met (stop-bad n) (fieldsAt b k p) 0 (λ f c s. let z : 0 + c ≡ c = omega arith in rw z s) inside) (List·Memᴰ·cases-cons m)
     where
       fields : List Op
-      fields = fieldsOps (tableOps n b) b p 0 (fieldsAt b k p)
+      fields = fieldsOps (λ a. tableOps n b) b p 0 (fieldsAt b k p)
 
       last : (Has (stop place) fields → BadAt b place) → Has (stop place) fields ⊎ Has (stop place) (end ∷ []) → BadAt b place
       last among (inl i) = among i
@@ -142,13 +142,13 @@ module _ (b : List ℕ) where
 
   -- ---- and a stop for each bad field
 
-  has-field : {o : Op} (ops : Kind → ℕ → List Op) (p : ℕ) (f : Field) (c : ℕ) (fs : List Field) → FieldAt f c fs → (a : ℕ)
-      → Has o (actOps ops b p (a + c) (f .width) (act b (p + (a + c)) f)) → Has o (fieldsOps ops b p a fs)
+  has-field : {o : Op} (ops : ℕ → Kind → ℕ → List Op) (p : ℕ) (f : Field) (c : ℕ) (fs : List Field) → FieldAt f c fs → (a : ℕ)
+      → Has o (actOps (ops (a + c)) b p (a + c) (f .width) (act b (p + (a + c)) f)) → Has o (fieldsOps ops b p a fs)
   unfolding fieldsOps
   has-field ops p f _ _ (here {fs = fs}) a m = let z : a + 0 ≡ a = omega arith in Memᴰ·append-left (fieldsOps ops b p (a + f .width) fs) (rw z at m)
   has-field ops p f _ _ (there {a = c} {g = g} {fs = fs} s) a m =
       let z : a + (g .width + c) ≡ a + g .width + c = omega arith in
-      Memᴰ·append-right (actOps ops b p a (g .width) (act b (p + a) g)) (has-field ops p f c fs s (a + g .width) (rw z at m))
+      Memᴰ·append-right (actOps (ops a) b p a (g .width) (act b (p + a) g)) (has-field ops p f c fs s (a + g .width) (rw z at m))
 
   -- as deep as its rank is deep enough
   deep : (m n : ℕ) (k : Kind) (p : ℕ) → rank k ≤ n → tableOps (n + m) b k p ≡ tableOps n b k p
@@ -160,7 +160,7 @@ module _ (b : List ℕ) where
   unfolding tableOps
   in-table n k p a f e s m =
       let z : 0 + a ≡ a = omega arith in
-      rw (← e) (List·Memᴰ·tail (Memᴰ·append-left (end ∷ []) (has-field (tableOps n b) p f a (fieldsAt b k p) s 0 (rw z m))))
+      rw (← e) (List·Memᴰ·tail (Memᴰ·append-left (end ∷ []) (has-field (λ a. tableOps n b) p f a (fieldsAt b k p) s 0 (rw z m))))
 
   met-has : {o : Op} (k : Kind) (p : ℕ) → Met b k p → Has o (tableOps (rank k) b k p) → Has o (tableOps deepest b Header 0)
   unfolding actOps

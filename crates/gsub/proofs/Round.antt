@@ -3,7 +3,7 @@ use mathlib.Core.Path.{_≡_, sym, ap, _∙_}
 use Prim.Native.Nat.{ℕ}
 use mathlib.Core.List.{List, [], _∷_}
 use native.Mathlib.Omega.{arith}
-use Rattle.model_orders.specs.Reading.{readingAt, Apart, Wide, Shows}
+use Rattle.model_orders.specs.Reading.{Reading, readingAt, Apart, Wide, Shows}
 use Rattle.model.specs.Session.{Needs}
 use Rattle.model.specs.History.{History}
 use Rattle.model.proofs.Closings.{known-equal}
@@ -13,8 +13,10 @@ use Rattle.steps.specs.Mirrored.{Step, byHistory}
 use Rattle.gsub.specs.declared.Kind.the-variants.{Header}
 use Rattle.gsub.specs.Ops.{Op, begin, put, link, end, stop, tableOps, Outcome, goOn, perform}
 use Rattle.gsub.specs.Meaning.{deepest, gsubReading}
-use Rattle.gsub.proofs.Accepted.{goes-on, whole-read}
-use Rattle.gsub.proofs.Again.{Clean, ops-again, wide-table}
+use Rattle.gsub.specs.Promote.{Mode, plain, modeOps, modeReading}
+use Rattle.gsub.proofs.Plain.{plain-ops, plain-reading}
+use Rattle.gsub.proofs.Accepted.{goes-on, ReadsAs, mode-reads, table-reads, whole-read}
+use Rattle.gsub.proofs.Again.{Clean, mode-again, wide-mode}
 
 -- ---- an accepted read meets no refusal 15
 
@@ -37,24 +39,30 @@ module _ (n : Needs) (store records : ℕ) (h : History) where
   abbrev made : List Op → Outcome History
   made ops = perform (byHistory n store records) ops 0 h
 
-  abbrev ops : List ℕ → List Op
-  ops b = tableOps deepest b Header 0
-
   -- the reading stands behind the id told
-  reading-is : (b : List ℕ) → made (ops b) .number ≡ 0 → gsubReading b ≡ readingAt (made (ops b) .next .closed) (made (ops b) .id)
-  reading-is b z = known-equal (whole-read n store records deepest b Header 0 0 h z .known)
+  reading-is : {ops : List Op} {r : Reading} → ReadsAs n store records ops r → made ops .number ≡ 0 → r ≡ readingAt (made ops .next .closed) (made ops .id)
+  reading-is f z = known-equal (whole-read n store records f 0 h z .known)
 
-  reading-again : (b t : List ℕ) → ops t ≡ ops b → made (ops b) .number ≡ 0 → gsubReading t ≡ gsubReading b
-  reading-again b t e z =
-      reading-is t (ap (λ l. made l .number) e ∙ z)
-      ∙ ap (λ l. readingAt (made l .next .closed) (made l .id)) e
-      ∙ sym (reading-is b z)
+  -- t is read by these ops, and reads r
+  pub record Again (ops : List Op) (r : Reading) (t : List ℕ) : Type 0 where
+    pub ops-same : tableOps deepest t Header 0 ≡ ops
+    pub reading : gsubReading t ≡ r
 
-  pub record Again (b t : List ℕ) : Type 0 where
-    pub ops-same : ops t ≡ ops b
-    pub reading : gsubReading t ≡ gsubReading b
+  reading-again : {ops : List Op} {r : Reading} (t : List ℕ) → ReadsAs n store records ops r → made ops .number ≡ 0 → tableOps deepest t Header 0 ≡ ops → Again ops r t
+  reading-again t f z e = record {
+    ops-same = e;
+    reading = reading-is (table-reads n store records deepest t Header 0) (ap (λ l. made l .number) e ∙ z)
+        ∙ ap (λ l. readingAt (made l .next .closed) (made l .id)) e
+        ∙ sym (reading-is f z);
+  }
 
-  pub read-again : (b t : List ℕ) → made (ops b) .number ≡ 0 → Shows t 0 (gsubReading b) → (Wide (gsubReading b) → Apart t 0 (gsubReading b)) → Again b t
-  read-again b t z s a =
-      let e = ops-again b t deepest Header 0 0 (clean-done (byHistory n store records) (ops b) 0 h z) (record { own = s .0; fields = s .1; apart = a (wide-table b deepest Header 0) }) in
-      record { ops-same = e; reading = reading-again b t e z }
+  -- b was read in any mode
+  pub mode-read-again : (m : Mode) (b t : List ℕ) → let ops = modeOps deepest b m Header 0 in let r = modeReading deepest b m Header 0 in
+      made ops .number ≡ 0 → Shows t 0 r → (Wide r → Apart t 0 r) → Again ops r t
+  mode-read-again m b t z s a =
+      let c = clean-done (byHistory n store records) (modeOps deepest b m Header 0) 0 h z in
+      reading-again t (mode-reads n store records deepest b m Header 0) z (mode-again b t deepest m Header 0 0 c (record { own = s .0; fields = s .1; apart = a (wide-mode deepest b m Header 0) }))
+
+  pub read-again : (b t : List ℕ) → made (tableOps deepest b Header 0) .number ≡ 0 → Shows t 0 (gsubReading b) → (Wide (gsubReading b) → Apart t 0 (gsubReading b))
+      → Again (tableOps deepest b Header 0) (gsubReading b) t
+  read-again b t = rw (plain-ops deepest b, plain-reading deepest b) at (mode-read-again plain b t)

@@ -10,11 +10,11 @@ use lib.Dec.{eqb}
 use Rattle.lists.specs.Lists.{pick}
 use Rattle.lists.proofs.Same.{and-left, and-right}
 use Rattle.gsub.specs.declared.Kind.{Kind}
-use Rattle.gsub.specs.declared.Kind.the-variants.{Header, ScriptList, Script, LangSys, FeatureList, Feature, LookupList, Lookup, SingleSubst, Coverage}
+use Rattle.gsub.specs.declared.Kind.the-variants.{Header, ScriptList, Script, LangSys, FeatureList, Feature, LookupList, Lookup, Extension, SingleSubst, Coverage}
 use Rattle.gsub.specs.declared.Rule.{Rule}
 use Rattle.gsub.specs.declared.Rule.the-variants.{Any, Only, To, ToOrNull}
 use Rattle.gsub.specs.declared.Field.{Field}
-use Rattle.gsub.specs.Tables.{Times, once, count, before, marked, Run, Shape, often, laid, shape, times, size, fieldsOf, singleSubst1, singleSubst2, coverage1, coverage2}
+use Rattle.gsub.specs.Tables.{Times, once, count, before, marked, Run, Shape, often, laid, shape, times, size, fieldsOf, lookup1, lookup7, singleSubst1, singleSubst2, coverage1, coverage2}
 
 -- of a field that is no offset
 unfoldable pub Plain : Rule → Type 0 → Type 0
@@ -209,7 +209,8 @@ all-sure LangSys first second = refl
 all-sure FeatureList first second = refl
 all-sure Feature first second = refl
 all-sure LookupList first second = refl
-all-sure Lookup first second = refl
+all-sure Lookup first second = by-two sure (eqb first 1) lookup1 lookup7 refl refl
+all-sure Extension first second = refl
 all-sure SingleSubst first second = by-two sure (eqb first 1) singleSubst1 singleSubst2 refl refl
 all-sure Coverage first second = by-two sure (eqb first 1) coverage1 coverage2 refl refl
 
@@ -224,7 +225,8 @@ module _ (w u : ℕ → ℕ) where
   same-chosen FeatureList h = refl
   same-chosen Feature h = refl
   same-chosen LookupList h = refl
-  same-chosen Lookup h = refl
+  same-chosen Lookup h = ap (λ z. shape Lookup z (w 2)) (same-at w u 0 (shape Lookup (w 0) (w 2)) (by-two (frontPlain 0) (eqb (w 0) 1) lookup1 lookup7 refl refl) h)
+  same-chosen Extension h = refl
   same-chosen SingleSubst h = ap (λ z. shape SingleSubst z (w 2)) (same-at w u 0 (shape SingleSubst (w 0) (w 2)) (by-two (frontPlain 0) (eqb (w 0) 1) singleSubst1 singleSubst2 refl refl) h)
   same-chosen Coverage h = ap (λ z. shape Coverage z (w 2)) (same-at w u 0 (shape Coverage (w 0) (w 2)) (by-two (frontPlain 0) (eqb (w 0) 1) coverage1 coverage2 refl refl) h)
 

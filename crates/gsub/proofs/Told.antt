@@ -26,12 +26,13 @@ use Rattle.steps.specs.Runs as calls
 use Rattle.steps.specs.Mirrored.{Step, byHistory}
 use Rattle.gsub.specs.declared.Kind.{Kind}
 use Rattle.gsub.specs.declared.Field.{Field}
-use Rattle.gsub.specs.declared.Kind.the-variants.{Header, ScriptList, Script, LangSys, FeatureList, Feature, LookupList, Lookup, SingleSubst, Coverage}
-use Rattle.gsub.specs.Tables.{shape, fieldsOf, wordAt, fieldsAt, singleSubst1, singleSubst2, coverage1, coverage2}
+use Rattle.gsub.specs.declared.Kind.the-variants.{Header, ScriptList, Script, LangSys, FeatureList, Feature, LookupList, Lookup, Extension, SingleSubst, Coverage}
+use Rattle.gsub.specs.Tables.{shape, fieldsOf, wordAt, fieldsAt, lookup1, lookup7, singleSubst1, singleSubst2, coverage1, coverage2}
 use Rattle.gsub.specs.Meaning.{deepest}
 use Rattle.gsub.proofs.Settled.{by-two}
-use Rattle.gsub.specs.Ops.{Act, keep, follow, refuse, valueAt, act, Op, begin, put, link, end, actOps, fieldsOps, tableOps, Outcome, outcome, goOn, perform}
+use Rattle.gsub.specs.Ops.{Act, keep, follow, refuse, valueAt, act, Op, begin, put, link, end, actOps, fieldsOps, opsBy, Outcome, outcome, goOn, perform}
 use Rattle.gsub.specs.Refusals.{tellable}
+use Rattle.gsub.specs.Promote.{Mode, bytesIn, placeIn, childMode, childPlace, modeOps}
 use Rattle.gsub.proofs.Grows.{size-put, size-link}
 use Rattle.gsub.proofs.Accepted.{act-room}
 use Rattle.gsub.proofs.Fields.{allFields, allRuns, all-laid, has-first}
@@ -83,7 +84,8 @@ shape-ok LangSys first second = refl
 shape-ok FeatureList first second = refl
 shape-ok Feature first second = refl
 shape-ok LookupList first second = refl
-shape-ok Lookup first second = refl
+shape-ok Lookup first second = by-two (allRuns fieldOk) (eqb first 1) lookup1 lookup7 refl refl
+shape-ok Extension first second = refl
 shape-ok SingleSubst first second = by-two (allRuns fieldOk) (eqb first 1) singleSubst1 singleSubst2 refl refl
 shape-ok Coverage first second = by-two (allRuns fieldOk) (eqb first 1) coverage1 coverage2 refl refl
 
@@ -183,57 +185,57 @@ module _ (n : Needs) (store records : ℕ) where
 
   -- ---- a table
 
-  module _ (b : List ℕ) where
-    -- a table at most m deep, with d objects open
-    abbrev Table : ℕ → Type 0
-    Table m =
-        (d : ℕ) (rest : List Op) (k : Kind) (p : ℕ) → d + m ≤ mostOpen → Behind d rest → (i : ℕ) (h : History) → length (h .opens) ≡ d
-        → Fine (perform call (tableOps m b k p ++ rest) i h)
+  -- ops are fine with d objects open, if what follows is
+  abbrev FineAt : ℕ → List Op → Type 0
+  FineAt d ops = (rest : List Op) → Behind d rest → (i : ℕ) (h : History) → length (h .opens) ≡ d → Fine (perform call (ops ++ rest) i h)
 
-    module _ (m : ℕ) (table : Table m) (d p : ℕ) (l : suc d + m ≤ mostOpen) where
-      -- one field
-      act-fine : (rest : List Op) (a : ℕ) (f : Field) → fieldOk f ≡ true → Inside d rest → (y : Act) → act b (p + a) f ≡ y
-          → (i : ℕ) (h : History) → length (h .opens) ≡ suc d → Fine (perform call (actOps (tableOps m b) b p a (f .width) y ++ rest) i h)
-      unfolding actOps perform tellable
-      act-fine rest a f ok later keep e i h q =
-          let room = act-room b (p + a) f (λ z. let r : keep ≡ refuse = sym e ∙ z in absurd (let x : _≡_ {A = ℕ} 0 1 = cc in omega arith)) in
-          let long = length-part (p + a) (p + a + f .width) b room in
-          put-fine d rest (part (p + a) (p + a + f .width) b) (omega (arith, long, leb-true 2 (f .width) (and-left (leb 2 (f .width)) _ ok))) later i h q
-      act-fine rest a f ok later (follow k) e i h q =
-          let ops = tableOps m b k (p + valueAt b (p + a) (f .width)) in
-          rw (append-assoc ops (link (f .width) ∷ []) rest) (table (suc d) (link (f .width) ∷ rest) k _ l (link-fine d rest (f .width) ok later) i h q)
-      act-fine rest a f ok later refuse e i h q = refl
+  module _ (ops : ℕ → Kind → ℕ → List Op) (b : List ℕ) (p d : ℕ) (below : (a : ℕ) (k : Kind) (q : ℕ) → FineAt (suc d) (ops a k q)) where
+    -- one field
+    act-fine : (rest : List Op) (a : ℕ) (f : Field) → fieldOk f ≡ true → Inside d rest → (y : Act) → act b (p + a) f ≡ y
+        → (i : ℕ) (h : History) → length (h .opens) ≡ suc d → Fine (perform call (actOps (ops a) b p a (f .width) y ++ rest) i h)
+    unfolding actOps perform tellable
+    act-fine rest a f ok later keep e i h q =
+        let room = act-room b (p + a) f (λ z. let r : keep ≡ refuse = sym e ∙ z in absurd (let x : _≡_ {A = ℕ} 0 1 = cc in omega arith)) in
+        let long = length-part (p + a) (p + a + f .width) b room in
+        put-fine d rest (part (p + a) (p + a + f .width) b) (omega (arith, long, leb-true 2 (f .width) (and-left (leb 2 (f .width)) _ ok))) later i h q
+    act-fine rest a f ok later (follow k) e i h q =
+        let to = p + valueAt b (p + a) (f .width) in
+        rw (append-assoc (ops a k to) (link (f .width) ∷ []) rest) (below a k to (link (f .width) ∷ rest) (link-fine d rest (f .width) ok later) i h q)
+    act-fine rest a f ok later refuse e i h q = refl
 
-      -- fields behind the first one
-      fields-fine : (rest : List Op) (fs : List Field) (a : ℕ) → allFields fieldOk fs ≡ true → Inside d rest → Inside d (fieldsOps (tableOps m b) b p a fs ++ rest)
-      unfolding fieldsOps
-      fields-fine rest [] a ok later i h q = later i h q
-      fields-fine rest (f ∷ fs) a ok later i h q =
-          rw (append-assoc (actOps (tableOps m b) b p a (f .width) (act b (p + a) f)) (fieldsOps (tableOps m b) b p (a + f .width) fs) rest)
-          (act-fine _ a f (and-left (fieldOk f) _ ok) (fields-fine rest fs (a + f .width) (and-right (fieldOk f) _ ok) later) (act b (p + a) f) refl i h (q .depth))
+    -- fields behind the first one
+    fields-fine : (rest : List Op) (fs : List Field) (a : ℕ) → allFields fieldOk fs ≡ true → Inside d rest → Inside d (fieldsOps ops b p a fs ++ rest)
+    unfolding fieldsOps
+    fields-fine rest [] a ok later i h q = later i h q
+    fields-fine rest (f ∷ fs) a ok later i h q =
+        rw (append-assoc (actOps (ops a) b p a (f .width) (act b (p + a) f)) (fieldsOps ops b p (a + f .width) fs) rest)
+        (act-fine _ a f (and-left (fieldOk f) _ ok) (fields-fine rest fs (a + f .width) (and-right (fieldOk f) _ ok) later) (act b (p + a) f) refl i h (q .depth))
 
-      -- all of them, of an object that has no bytes yet
-      all-fine : (rest : List Op) (f : Field) (fs : List Field) → allFields fieldOk (f ∷ fs) ≡ true → Inside d rest → (i : ℕ) (h : History) → length (h .opens) ≡ suc d
-          → Fine (perform call (fieldsOps (tableOps m b) b p 0 (f ∷ fs) ++ rest) i h)
-      unfolding fieldsOps
-      all-fine rest f fs ok later i h q =
-          rw (append-assoc (actOps (tableOps m b) b p 0 (f .width) (act b (p + 0) f)) (fieldsOps (tableOps m b) b p (0 + f .width) fs) rest)
-          (act-fine _ 0 f (and-left (fieldOk f) _ ok) (fields-fine rest fs (0 + f .width) (and-right (fieldOk f) _ ok) later) (act b (p + 0) f) refl i h q)
+    -- all of them, of an object that has no bytes yet
+    all-fine : (rest : List Op) (f : Field) (fs : List Field) → allFields fieldOk (f ∷ fs) ≡ true → Inside d rest → (i : ℕ) (h : History) → length (h .opens) ≡ suc d
+        → Fine (perform call (fieldsOps ops b p 0 (f ∷ fs) ++ rest) i h)
+    unfolding fieldsOps
+    all-fine rest f fs ok later i h q =
+        rw (append-assoc (actOps (ops 0) b p 0 (f .width) (act b (p + 0) f)) (fieldsOps ops b p (0 + f .width) fs) rest)
+        (act-fine _ 0 f (and-left (fieldOk f) _ ok) (fields-fine rest fs (0 + f .width) (and-right (fieldOk f) _ ok) later) (act b (p + 0) f) refl i h q)
 
-    table-fine : (m : ℕ) → Table m
-    unfolding tableOps tellable perform
-    table-fine zero d rest k p l later i h q = refl
-    table-fine (suc m) d rest k p l later i h q =
+    table-fine : d < mostOpen → (k : Kind) → FineAt d (opsBy ops b k p)
+    table-fine l k rest later i h q =
         let fs = fieldsAt b k p in
-        let t = has-first k (λ j. wordAt b (p + j)) in
+        let t = has-first (λ j. wordAt b (p + j)) k in
         let ok = all-ok k (λ j. wordAt b (p + j)) in
-        ap (λ (x : List Op). tellable (perform call (begin ∷ x) i h .number)) (append-assoc (fieldsOps (tableOps m b) b p 0 fs) (end ∷ []) rest)
-        ∙ begin-fine d (fieldsOps (tableOps m b) b p 0 fs ++ (end ∷ rest)) (omega arith)
-        (rw (t .whole) (all-fine m (table-fine m) d p (omega arith) (end ∷ rest) (t .first) (t .others) (rw (t .whole) at ok) (end-fine d rest later))) i h q
+        ap (λ (x : List Op). tellable (perform call (begin ∷ x) i h .number)) (append-assoc (fieldsOps ops b p 0 fs) (end ∷ []) rest)
+        ∙ begin-fine d (fieldsOps ops b p 0 fs ++ (end ∷ rest)) l (rw (t .whole) (all-fine (end ∷ rest) (t .first) (t .others) (rw (t .whole) at ok) (end-fine d rest later))) i h q
 
-    -- with nothing open at first, and nothing behind it
-    pub tells-few : (m : Limits) → tellable (perform call (tableOps deepest b Header 0) 0 (begun m) .number) ≡ true
-    unfolding perform tellable
-    tells-few m =
-        ap (λ (x : List Op). tellable (perform call x 0 (begun m) .number)) (sym (append-nil (tableOps deepest b Header 0)))
-        ∙ table-fine deepest 0 [] Header 0 (omega arith) (λ i h e k. refl) 0 (begun m) refl
+  mode-fine : (e : ℕ) (b : List ℕ) (m : Mode) (k : Kind) (p d : ℕ) → d + e ≤ mostOpen → FineAt d (modeOps e b m k p)
+  unfolding modeOps tellable perform
+  mode-fine zero b m k p d l = λ rest later i h q. refl
+  mode-fine (suc e) b m k p d l =
+      table-fine _ (bytesIn b m p) (placeIn m p) d (λ a j q. mode-fine e b (childMode b m p a j q) j (childPlace m p q) (suc d) (omega arith)) (omega arith) k
+
+  -- with nothing open at first, and nothing behind it
+  pub tells-few : (b : List ℕ) (m : Mode) (limits : Limits) → tellable (perform call (modeOps deepest b m Header 0) 0 (begun limits) .number) ≡ true
+  unfolding perform tellable
+  tells-few b m limits =
+      ap (λ (x : List Op). tellable (perform call x 0 (begun limits) .number)) (sym (append-nil (modeOps deepest b m Header 0)))
+      ∙ mode-fine deepest b m Header 0 0 (omega arith) [] (λ i h e k. refl) 0 (begun limits) refl

@@ -1,8 +1,8 @@
--- docs/RULES.md, section 11: three small tables, counted by hand: what is told of each, whole or damaged, and what their lookup substitutes.
+-- docs/RULES.md, section 11: small tables, counted by hand: what is told of each, whole or damaged, and what their lookup substitutes; and tables in which lookups are promoted.
 use Prim.Native.Nat.{ℕ}
 use mathlib.Core.List.{List, [], _∷_, _++_}
 use mathlib.Core.Bool.{Bool, true, _&&_}
-use lib.ListN.{take, set}
+use lib.ListN.{take, drop, set}
 use lib.Dec.{eqb}
 use Rattle.model.specs.Judge.{Limits}
 use Rattle.model.specs.Session.{Needs}
@@ -46,6 +46,34 @@ twice =
     ++ (0 ∷ 2 ∷ 0 ∷ 10 ∷ 0 ∷ 2 ∷ 0 ∷ 20 ∷ 0 ∷ 21 ∷ [])
     ++ (0 ∷ 1 ∷ 0 ∷ 2 ∷ 0 ∷ 5 ∷ 0 ∷ 5 ∷ [])
 
+-- the small table's lookup as type 7, with an Extension before its subtable
+abbrev pub extended : List ℕ
+extended =
+    set (take 60 small) 53 7
+    ++ (0 ∷ 1 ∷ 0 ∷ 1 ∷ 0 ∷ 0 ∷ 0 ∷ 8 ∷ [])
+    ++ drop 60 small
+
+-- two offsets to one lookup of type 1 with a mark filtering set, then a lookup of type 7
+abbrev pub listed : List ℕ
+listed =
+    take 48 small
+    ++ (0 ∷ 3 ∷ 0 ∷ 8 ∷ 0 ∷ 8 ∷ 0 ∷ 18 ∷ [])
+    ++ (0 ∷ 1 ∷ 0 ∷ 16 ∷ 0 ∷ 1 ∷ 0 ∷ 26 ∷ 0 ∷ 3 ∷ [])
+    ++ (0 ∷ 7 ∷ 0 ∷ 0 ∷ 0 ∷ 1 ∷ 0 ∷ 8 ∷ [])
+    ++ (0 ∷ 1 ∷ 0 ∷ 1 ∷ 0 ∷ 0 ∷ 0 ∷ 8 ∷ [])
+    ++ drop 60 small
+
+-- its last two promoted
+abbrev pub listed2 : List ℕ
+listed2 =
+    take 48 small
+    ++ (0 ∷ 3 ∷ 0 ∷ 8 ∷ 0 ∷ 18 ∷ 0 ∷ 28 ∷ [])
+    ++ (0 ∷ 1 ∷ 0 ∷ 16 ∷ 0 ∷ 1 ∷ 0 ∷ 36 ∷ 0 ∷ 3 ∷ [])
+    ++ (0 ∷ 7 ∷ 0 ∷ 16 ∷ 0 ∷ 1 ∷ 0 ∷ 18 ∷ 0 ∷ 3 ∷ [])
+    ++ (0 ∷ 7 ∷ 0 ∷ 0 ∷ 0 ∷ 1 ∷ 0 ∷ 8 ∷ [])
+    ++ (0 ∷ 1 ∷ 0 ∷ 1 ∷ 0 ∷ 0 ∷ 0 ∷ 8 ∷ [])
+    ++ drop 60 small
+
 -- ---- read on the history
 
 abbrev noNeeds : Needs
@@ -87,6 +115,7 @@ cases =
     accepted small
     ∷ accepted ranges
     ∷ accepted twice
+    ∷ accepted extended
     -- defaultLangSysOffset may be NULL
     ∷ accepted (but 19 0)
     -- cut: nothing, before the FeatureList, in the last glyph
@@ -96,9 +125,15 @@ cases =
     -- version 2.0, version 1.1
     ∷ stops (but 1 2) 0
     ∷ stops (but 3 1) 2
-    -- lookup types 2 and 7
+    -- lookup type 2
     ∷ stops (but 53 2) 52
-    ∷ stops (but 53 7) 52
+    -- an Extension's format, and the lookup types 2 and 7 in it
+    ∷ stops (set extended 61 2) 60
+    ∷ stops (set extended 63 2) 62
+    ∷ stops (set extended 63 7) 62
+    -- its offset leads nowhere, and outside
+    ∷ stops (set extended 67 0) 64
+    ∷ stops (set extended 64 1) 16777284
     -- substFormat 3, coverageFormat 3
     ∷ stops (but 61 3) 60
     ∷ stops (but 67 3) 66
@@ -124,6 +159,8 @@ cases =
     ∷ within 9 10 74 small 8
     ∷ within 12 12 104 ranges 0
     ∷ within 12 12 103 ranges 6
+    ∷ within 11 11 82 extended 0
+    ∷ within 11 11 81 extended 6
     ∷ []
 
 -- ---- what a lookup substitutes, of the table's reading and of the table itself
@@ -162,4 +199,7 @@ substitutions =
     ∷ gives ranges 10 10
     -- the first entry
     ∷ gives twice 5 20
+    -- behind an Extension
+    ∷ gives extended 5 4
+    ∷ gives extended 6 6
     ∷ []

@@ -28,18 +28,22 @@ actReading child b p a w (follow k) r = field (newSlot a w 0) (child k (p + valu
 actReading child b p a w refuse r = r
 
 -- the fields from a on, over the bytes of all
-unfoldable pub fieldsReading : (Kind → ℕ → Reading) → List ℕ → ℕ → ℕ → List Field → List ℕ → Reading
+unfoldable pub fieldsReading : (ℕ → Kind → ℕ → Reading) → List ℕ → ℕ → ℕ → List Field → List ℕ → Reading
 fieldsReading child b p a [] whole = bytes whole
-fieldsReading child b p a (f ∷ fs) whole = actReading child b p a (f .width) (act b (p + a) f) (fieldsReading child b p (a + f .width) fs whole)
+fieldsReading child b p a (f ∷ fs) whole = actReading (child a) b p a (f .width) (act b (p + a) f) (fieldsReading child b p (a + f .width) fs whole)
 
--- the table of kind k at p, at most n tables deep
+-- the table of kind k at p, given its children's readings
+abbrev pub readingBy : (ℕ → Kind → ℕ → Reading) → List ℕ → Kind → ℕ → Reading
+readingBy child b k p = fieldsReading child b p 0 (fieldsAt b k p) (ownBytes b p 0 (fieldsAt b k p))
+
+-- at most n tables deep
 unfoldable pub tableReading : ℕ → List ℕ → Kind → ℕ → Reading
 tableReading zero b k p = bytes []
-tableReading (suc n) b k p = fieldsReading (tableReading n b) b p 0 (fieldsAt b k p) (ownBytes b p 0 (fieldsAt b k p))
+tableReading (suc n) b k p = readingBy (λ a. tableReading n b) b k p
 
--- Header, LookupList, Lookup, SingleSubst, Coverage: none lies deeper
+-- Header, LookupList, Lookup, Extension, SingleSubst, Coverage: none lies deeper
 abbrev pub deepest : ℕ
-deepest = 5
+deepest = 6
 
 abbrev pub gsubReading : List ℕ → Reading
 gsubReading b = tableReading deepest b Header 0

@@ -50,14 +50,19 @@ actOps child b p a w keep = put (part (p + a) (p + a + w) b) ∷ []
 actOps child b p a w (follow k) = child k (p + valueAt b (p + a) w) ++ (link w ∷ [])
 actOps child b p a w refuse = stop (p + a) ∷ []
 
-unfoldable pub fieldsOps : (Kind → ℕ → List Op) → List ℕ → ℕ → ℕ → List Field → List Op
+-- a child's ops may hang on its offset's place a
+unfoldable pub fieldsOps : (ℕ → Kind → ℕ → List Op) → List ℕ → ℕ → ℕ → List Field → List Op
 fieldsOps child b p a [] = []
-fieldsOps child b p a (f ∷ fs) = actOps child b p a (f .width) (act b (p + a) f) ++ fieldsOps child b p (a + f .width) fs
+fieldsOps child b p a (f ∷ fs) = actOps (child a) b p a (f .width) (act b (p + a) f) ++ fieldsOps child b p (a + f .width) fs
 
--- the table of kind k at p, at most n tables deep
+-- the table of kind k at p, given its children's ops
+abbrev pub opsBy : (ℕ → Kind → ℕ → List Op) → List ℕ → Kind → ℕ → List Op
+opsBy child b k p = begin ∷ (fieldsOps child b p 0 (fieldsAt b k p) ++ (end ∷ []))
+
+-- at most n tables deep
 unfoldable pub tableOps : ℕ → List ℕ → Kind → ℕ → List Op
 tableOps zero b k p = stop p ∷ []
-tableOps (suc n) b k p = begin ∷ (fieldsOps (tableOps n b) b p 0 (fieldsAt b k p) ++ (end ∷ []))
+tableOps (suc n) b k p = opsBy (λ a. tableOps n b) b k p
 
 -- ---- the ops made, one call after the other, up to the first refusal
 

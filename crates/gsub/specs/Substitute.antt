@@ -6,7 +6,7 @@ use lib.Dec.{eqb, leb, ltb}
 use Rattle.lists.specs.Lists.{pick}
 use Rattle.big_endian.specs.BigEndian.{capacity}
 use Rattle.model_orders.specs.Reading.{Reading, bytes, field, bytesOf}
-use Rattle.gsub.specs.Tables.{wordAt}
+use Rattle.gsub.specs.Tables.{wordAt, longAt}
 
 -- a glyph's coverage index
 pub data Index : Type 0 where
@@ -43,19 +43,24 @@ module _ {T : Type 0} (word : T → ℕ → ℕ) (child : T → ℕ → T) where
   settled t g none later = later
   settled t g (at i) later = single t g i
 
-  -- the first subtable of a Lookup that covers the glyph, from number i on, n of them left
-  unfoldable pub bySubtables : T → ℕ → ℕ → ℕ → ℕ
-  bySubtables t g i zero = g
-  bySubtables t g i (suc n) = let s = child t (6 + 2 * i) in settled s g (coverageIndex (child s 2) g) (bySubtables t g (i + 1) n)
+  -- ---- a Lookup; `far t a` is the table that the offset of four bytes at a leads to
 
-  -- ---- the lookup of a number in the LookupList, of a Header
+  module _ (far : T → ℕ → T) where
+    -- the subtable of number i: of type 1 where the offset leads, else behind the Extension there
+    unfoldable pub subtable : T → ℕ → T
+    subtable t i = let s = child t (6 + 2 * i) in pick (eqb (word t 0) 1) s (far s 4)
 
-  -- a number past the list is no lookup, and changes nothing
-  unfoldable pub substituteIn : T → ℕ → ℕ → ℕ
-  substituteIn t l g =
-      let list = child t 8 in
-      let lookup = child list (2 + 2 * l) in
-      pick (ltb l (word list 0)) (bySubtables lookup g 0 (word lookup 4)) g
+    -- the first subtable that covers the glyph, from number i on, n of them left
+    unfoldable pub bySubtables : T → ℕ → ℕ → ℕ → ℕ
+    bySubtables t g i zero = g
+    bySubtables t g i (suc n) = let s = subtable t i in settled s g (coverageIndex (child s 2) g) (bySubtables t g (i + 1) n)
+
+    -- the lookup of a number in the LookupList, of a Header; a number past the list is no lookup, and changes nothing
+    unfoldable pub substituteIn : T → ℕ → ℕ → ℕ
+    substituteIn t l g =
+        let list = child t 8 in
+        let lookup = child list (2 + 2 * l) in
+        pick (ltb l (word list 0)) (bySubtables lookup g 0 (word lookup 4)) g
 
 -- ---- of a reading
 
@@ -68,7 +73,7 @@ childOf (bytes b) a = bytes []
 childOf (field s c r) a = pick (eqb (s .at) a) c (childOf r a)
 
 abbrev pub substitute : Reading → ℕ → ℕ → ℕ
-substitute r l g = substituteIn wordOf childOf r l g
+substitute r l g = substituteIn wordOf childOf childOf r l g
 
 -- ---- of a slice, a table being its place there
 
@@ -78,5 +83,8 @@ wordFrom b p a = wordAt b (p + a)
 abbrev pub childFrom : List ℕ → ℕ → ℕ → ℕ
 childFrom b p a = p + wordAt b (p + a)
 
+abbrev pub farFrom : List ℕ → ℕ → ℕ → ℕ
+farFrom b p a = p + longAt b (p + a)
+
 abbrev pub substituteFrom : List ℕ → ℕ → ℕ → ℕ
-substituteFrom b l g = substituteIn (wordFrom b) (childFrom b) 0 l g
+substituteFrom b l g = substituteIn (wordFrom b) (childFrom b) (farFrom b) 0 l g

@@ -5,8 +5,9 @@ use mathlib.Core.Bool.{Bool}
 use lib.ListN.{getD}
 use lib.Dec.{eqb}
 use Rattle.lists.specs.Lists.{pick}
+use Rattle.big_endian.specs.BigEndian.{capacity}
 use Rattle.gsub.specs.declared.Kind.{Kind}
-use Rattle.gsub.specs.declared.Kind.the-variants.{Header, ScriptList, Script, LangSys, FeatureList, Feature, LookupList, Lookup, SingleSubst, Coverage}
+use Rattle.gsub.specs.declared.Kind.the-variants.{Header, ScriptList, Script, LangSys, FeatureList, Feature, LookupList, Lookup, Extension, SingleSubst, Coverage}
 use Rattle.gsub.specs.declared.Rule.the-variants.{Any, Only, To, ToOrNull}
 use Rattle.gsub.specs.declared.Field.{Field}
 
@@ -24,6 +25,9 @@ is v = record { width = 2; rule = Only v }
 
 abbrev pub offset16 : Kind → Field
 offset16 k = record { width = 2; rule = To k }
+
+abbrev pub offset32 : Kind → Field
+offset32 k = record { width = 4; rule = To k }
 
 abbrev pub offset16OrNull : Kind → Field
 offset16OrNull k = record { width = 2; rule = ToOrNull k }
@@ -86,8 +90,14 @@ abbrev pub lookupList : Shape
 lookupList = one (uint16 ∷ []) ∷ many (offset16 Lookup ∷ []) ∷ []
 
 -- lookupType, lookupFlag, subTableCount; subtableOffsets; markFilteringSet
-abbrev pub lookup : Shape
-lookup = one (is 1 ∷ uint16 ∷ uint16 ∷ []) ∷ many (offset16 SingleSubst ∷ []) ∷ ifMarked (uint16 ∷ []) ∷ []
+abbrev pub lookupOf : ℕ → Kind → Shape
+lookupOf type k = one (is type ∷ uint16 ∷ uint16 ∷ []) ∷ many (offset16 k ∷ []) ∷ ifMarked (uint16 ∷ []) ∷ []
+
+abbrev pub lookup1 : Shape
+lookup1 = lookupOf 1 SingleSubst
+
+abbrev pub lookup7 : Shape
+lookup7 = lookupOf 7 Extension
 
 -- coverageFormat, glyphCount; glyphArray
 abbrev pub coverage1 : Shape
@@ -107,7 +117,13 @@ singleSubst1 = one (is 1 ∷ offset16 Coverage ∷ uint16 ∷ []) ∷ []
 abbrev pub singleSubst2 : Shape
 singleSubst2 = one (is 2 ∷ offset16 Coverage ∷ uint16 ∷ []) ∷ many (uint16 ∷ []) ∷ []
 
--- ---- by the table's first two numbers: a format is the first. One that is none of them is refused by the last one's own field
+-- ---- lookup type 7: extension substitution
+
+-- substFormat, extensionLookupType, extensionOffset
+abbrev pub extension : Shape
+extension = one (is 1 ∷ is 1 ∷ offset32 SingleSubst ∷ []) ∷ []
+
+-- ---- by the table's first two numbers: a format or a lookup type is the first. One that is none of them is refused by the last one's own field
 
 unfoldable pub shape : Kind → ℕ → ℕ → Shape
 shape Header first second = header
@@ -117,7 +133,8 @@ shape LangSys first second = langSys
 shape FeatureList first second = featureList
 shape Feature first second = feature
 shape LookupList first second = lookupList
-shape Lookup first second = lookup
+shape Lookup first second = pick (eqb first 1) lookup1 lookup7
+shape Extension first second = extension
 shape SingleSubst first second = pick (eqb first 1) singleSubst1 singleSubst2
 shape Coverage first second = pick (eqb first 1) coverage1 coverage2
 
@@ -153,6 +170,10 @@ fieldsOf k word = laid word 0 (shape k (word 0) (word 2))
 -- the 16-bit number at a place of a slice, zeros past its end
 abbrev pub wordAt : List ℕ → ℕ → ℕ
 wordAt b at = getD b at 0 * 256 + getD b (at + 1) 0
+
+-- the 32-bit number
+abbrev pub longAt : List ℕ → ℕ → ℕ
+longAt b at = wordAt b at * capacity 2 + wordAt b (at + 2)
 
 -- the fields of the table of kind k at p
 abbrev pub fieldsAt : List ℕ → Kind → ℕ → List Field

@@ -13,6 +13,7 @@ pub enum Kind {
     Feature,
     LookupList,
     Lookup,
+    Extension,
     SingleSubst,
     Coverage,
 }
@@ -36,3 +37,15 @@ pub enum Act {
     Follow(Kind),
     Refuse,
 }
+
+// How a table is read: as it stands; as the Header or the LookupList of one whose last lookups, so many, are promoted; as a Lookup that is; as the new
+// Extension in front of the subtable at its place.
+pub enum Mode {
+    Plain,
+    Last(usize),
+    Promoted,
+    New,
+}
+
+// What is written and stands in no table: a new Extension, with format 1, extensionLookupType 1 and any offset; behind it the lookupType of a promoted Lookup.
+pub const NEW: [u8; 10] = [0, 1, 0, 1, 0, 0, 0, 1, 0, 7];

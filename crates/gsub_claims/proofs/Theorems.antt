@@ -1,8 +1,8 @@
 -- docs/RULES.md, section 11: open this file first. Of a read, in any stores:
 --   11.4  15 is told exactly where a bad field is reached, with its place: `bad-exactly`, `bad-field`, here; which fields are bad `stops-exactly` (gsub Refusals)
---   11.5  the earliest refusal is told: `first-refusal`, here; no number but 0, 6, 7, 8, 13, 15, 16: `read-tells` (gsub_read Listed)
---   11.6  after a refusal the stores are as freshly started: `refused-fresh`; after 13 as they were: `untouched-13` (Listed)
---   11.7  what the stores held does not matter: `same-told`; 12 is never told: `never-12` (Listed)
+--   11.5  the earliest refusal is told: `first-refusal`, here; no number but 0, 6, 7, 8, 13, 15, 16: `numbers-told`, here
+--   11.6  after a refusal the stores are as freshly started: `refused-fresh`; after 13 as they were: `untouched`, here
+--   11.7  what the stores held does not matter: `same-told`; 12 is never told: `never-unsound`, here
 --   11.8  what is told is the history's: `read-told`; what is left is what the calls that it stands for leave: `read-listed` (Listed); lists with reads in
 --         them: `demand-3-any`, in C `demand-3-any-c` (claims_lists Program)
 --   11.9  the root reads as the table: `root-reads` (Again)
@@ -18,7 +18,9 @@ use borrow.Author.Tests.{eq-eqb}
 use lib.Dec.{eqb}
 use lib.ListN.{length}
 use Rattle.lists.specs.Lists.{pick, Exactly}
+use Rattle.answer.specs.Number.{number}
 use Rattle.answer.specs.declared.tally.Tally.{Tally}
+use Rattle.answer.specs.declared.Refusal.the-variants as Refusal
 use Rattle.model.specs.Judge.{Verdict, accepted, refused}
 use Rattle.model.specs.Told.{doneClose}
 use Rattle.model.specs.History.{History, counts, begun, judged, tell, expected}
@@ -31,11 +33,22 @@ use Rattle.gsub.specs.Ops.{badTable, stop, Outcome, perform}
 use Rattle.gsub.specs.Refusals.{BadAt, Reaches, Settles}
 use Rattle.gsub.proofs.Refusals.{stops-exactly}
 use Rattle.gsub.proofs.Earliest.{earliest, told-stop}
-use Rattle.gsub_read.specs.Read.{ReadTold, doneRead, refusedRead, toldOf, gsubOps, readStep, readExpected}
+use Rattle.gsub_read.specs.Read.{ReadTold, doneRead, refusedRead, toldOf, gsubOps, readStep, readTells, opsExpected}
 use Rattle.gsub_read.proofs.Fresh.{start-number}
-use Rattle.gsub_read.proofs.Listed.{read-told}
+use Rattle.gsub_read.proofs.Listed.{few-told, read-told, read-tells, never-12, untouched-13}
 
--- b is read in s, and its start is accepted
+-- b is read in s
+module _ (b : List ℕ) (objects links : ℕ) (s : Stores) where
+  pub numbers-told : readTells (readStep b objects links s .told .number) ≡ true
+  numbers-told = read-tells (gsubOps b) objects links s (few-told b)
+
+  pub never-unsound : readStep b objects links s .told .number ≡ number Refusal.Unsound → ⊥
+  never-unsound = never-12 (gsubOps b) objects links s (few-told b)
+
+  pub untouched : readStep b objects links s .told .number ≡ number Refusal.OutOfRange → readStep b objects links s .stores ≡ s
+  untouched = untouched-13 (gsubOps b) objects links s (few-told b)
+
+-- its start is accepted
 module _ (b : List ℕ) (objects links : ℕ) (s : Stores) (begins : stepOn (start objects links) s .told .number ≡ 0) where
   abbrev told : ReadTold
   told = readStep b objects links s .told
@@ -51,8 +64,8 @@ module _ (b : List ℕ) (objects links : ℕ) (s : Stores) (begins : stepOn (sta
   came = perform call (gsubOps b) 0 fresh
 
   told-is : told ≡ toldOf counts came
-  unfolding readExpected
-  told-is = read-told b objects links s (needs .work) ∙ rw (sym (start-number objects links s) ∙ begins)
+  unfolding opsExpected
+  told-is = read-told (gsubOps b) objects links s (needs .work) ∙ rw (sym (start-number objects links s) ∙ begins)
 
   -- no call of the eight tells 15
   never-bad : (c : StoreCall) (h : History) → call c h .number ≡ badTable → ⊥

@@ -2,15 +2,11 @@
 use Prim.Native.Nat.{ℕ}
 use mathlib.Core.Path.{_≡_}
 use mathlib.Core.List.{List}
-use lib.ListN.{length, take}
-use Rattle.steps.specs.Runs.{Stores, LentLeft}
+use lib.ListN.{length}
+use Rattle.steps.specs.Runs.{Stores}
 use Rattle.gsub.specs.Meaning.{gsubReading}
 use Rattle.gsub.specs.Substitute.{substituteFrom}
 use Rattle.gsub_read.specs.Read.{readStep}
-
--- the table in front of a pack's output
-abbrev pub tableIn : LentLeft → List ℕ
-tableIn l = take (l .told .length) (l .out)
 
 -- t is read as b was read in s: in any stores of those lengths it is accepted, with the same id and counts and the same stores left; it has the same
 -- reading, and the same substitute for every glyph in every lookup

@@ -62,6 +62,11 @@ module _ (objects links : ℕ) where
         go accepted out n = absurd (n refl)
         go (refused why) out n = refl
 
+  -- of two pairs of stores only the lengths count
+  pub same-number : (s t : Stores) → length (t .bytes) ≡ length (s .bytes) → length (t .words) ≡ length (s .words) → stepOn (start objects links) t .told .number ≡ stepOn (start objects links) s .told .number
+  same-number s t p q =
+      start-number t ∙ (λ i. numberOf (judgeStart (record { objects = objects; links = links; bytes = p i }) (need objects links) (q i))) ∙ sym (start-number s)
+
   module _ (s : Stores) (z : stepOn (start objects links) s .told .number ≡ 0) where
     pub start-begun : Begun (m s) (length (s .words)) (drop (needOf (m s)) (s .words)) (stepOn (start objects links) s .stores)
     start-begun =

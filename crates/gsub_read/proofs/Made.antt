@@ -9,13 +9,14 @@ use Rattle.answer.specs.declared.ObjectId.{ObjectId}
 use Rattle.layout.specs.Sound.{sound}
 use Rattle.steps.specs.Runs.{Stores}
 use Rattle.steps.specs.Mirrored.{byStores}
-use Rattle.gsub.specs.Ops.{Op, begin, end, fieldsOps, tableOps, perform}
+use Rattle.gsub.specs.Ops.{Op, begin, end, fieldsOps, perform}
 use Rattle.gsub.specs.Meaning.{deepest}
+use Rattle.gsub.specs.Promote.{newBytes}
 use Rattle.gsub_walk.specs.declared.walk.Walk.{Walk}
 use Rattle.gsub_walk.specs.declared.walk.Frame.{Frame}
 use Rattle.gsub_walk.specs.declared.walk.Move.{Move}
 use Rattle.gsub_walk.specs.declared.walk.Move.the-variants as Move
-use Rattle.gsub_walk.specs.Rest.{fieldsLeft, linkOps, rest, restOf, Standing, MovesBy}
+use Rattle.gsub_walk.specs.Rest.{bytesOf, placeOf, fieldsLeft, childOps, linkOps, rest, restOf, Standing, MovesBy}
 use Rattle.gsub_walk.proofs.Stacks.{standing-is}
 use Rattle.gsub_walk.proofs.Moving.{done-rest}
 use Rattle.gsub_read.specs.declared.perform.Performed.{Performed}
@@ -40,6 +41,10 @@ module _ (b : List ℕ) {m : Move} where
   unfolding MoveOk
   put-ok at width e h = rw e at h
 
+  pub new-ok : (at width : ℕ) → m ≡ Move.New at width → MoveOk b m → at + width ≤ length newBytes
+  unfolding MoveOk
+  new-ok at width e h = rw e at h
+
   pub link-ok : (width : ℕ) → m ≡ Move.Link width → MoveOk b m → width ≤ 4
   unfolding MoveOk
   link-ok width e h = rw e at h
@@ -51,6 +56,7 @@ module _ (b : List ℕ) (w next : Walk) where
   unfolding MovesBy MoveOk
   move-ok Move.Begin h = tt
   move-ok (Move.Put at width) h = h .1
+  move-ok (Move.New at width) h = h .1
   move-ok (Move.Link width) h = h .1
   move-ok Move.End h = tt
   move-ok (Move.Stop p) h = tt
@@ -65,6 +71,7 @@ module _ (b : List ℕ) (w next : Walk) where
   unfolding MovesBy
   takes Move.Begin h = record { later = _; first = h .made }
   takes (Move.Put at width) h = record { later = _; first = h .0 .made }
+  takes (Move.New at width) h = record { later = _; first = h .0 .made }
   takes (Move.Link width) h = record { later = _; first = h .0 .made }
   takes Move.End h = record { later = _; first = h .made }
   takes (Move.Stop p) h = record { later = h .later; first = h .made }
@@ -81,7 +88,7 @@ some-ops false width a c e = no-end a c e
 
 rest-some : (b : List ℕ) (n : ℕ) (back : Bool) (f : Frame) (fs : List Frame) → rest b n back (f ∷ fs) ≡ [] → ⊥
 unfolding rest
-rest-some b n back f fs e = some-ops back (f .width) (fieldsOps (tableOps n b) b (f .place) (f .at) (fieldsLeft b f)) (rest b (suc n) true fs) e
+rest-some b n back f fs e = some-ops back (f .width) (fieldsOps (childOps n b f) (bytesOf b f) (placeOf f) (f .at) (fieldsLeft b f)) (rest b (suc n) true fs) e
 
 some-rest : (b : List ℕ) (w : Walk) → Standing w → 0 < w .depth → restOf b w ≡ [] → ⊥
 unfolding restOf
@@ -110,6 +117,7 @@ module _ (b : List ℕ) (w next : Walk) (i : ℕ) (s : Stores) (j : ObjectId) (t
   unfolding MovesBy
   goes-on k o Move.Begin v h = one-less Move.Begin begin refl (v .made) (v .stands) h
   goes-on k o (Move.Put at width) v h = one-less (Move.Put at width) _ refl (v .0 .made) (v .0 .stands) h
+  goes-on k o (Move.New at width) v h = one-less (Move.New at width) _ refl (v .0 .made) (v .0 .stands) h
   goes-on k o (Move.Link width) v h = one-less (Move.Link width) _ refl (v .0 .made) (v .0 .stands) h
   goes-on k o Move.End v h = one-less Move.End end refl (v .made) (v .stands) h
   goes-on k o (Move.Stop p) v h = absurd (not-stopped b p i s t j h)

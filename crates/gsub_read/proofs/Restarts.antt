@@ -17,12 +17,13 @@ use Rattle.layout.specs.Sound.{sound}
 use Rattle.steps.specs.Steps.{tallyIn}
 use Rattle.steps.specs.Runs.{Stores, Left, left, start, stepOn}
 use Rattle.steps.proofs.Steps.{start-drawn}
+use Rattle.gsub.specs.Ops.{Op}
 use Rattle.gsub_read.specs.declared.perform.Performed.{Performed}
 use Rattle.gsub_read.specs.declared.perform.Performed.the-variants as Performed
 use Rattle.gsub_read.specs.declared.answers.ReadAnswer.{ReadAnswer}
 use Rattle.gsub_read.specs.declared.answers.ReadAnswer.the-variants.{Done, BadTable, Refused}
 use Rattle.gsub_read.specs.Perform.{outcomeOf, RanBy}
-use Rattle.gsub_read.specs.Read.{ReadLeft, toldByRead, gsubOps, readLeft, settled, begunStep, readStep, handedOf, startedOf}
+use Rattle.gsub_read.specs.Read.{ReadLeft, toldByRead, readLeft, settled, begunStep, opsStep, handedOf, startedOf}
 
 -- ---- answers
 
@@ -52,26 +53,26 @@ module _ (objects links : ℕ) (s : Stores) {s₁ : Stores} (a : Answer) (e : le
       let told : stepOn (start objects links) s .told .number ≡ 0 = ap (λ (l : Left). l .told .number) (sym e) ∙ ap (λ z. toldBy z .number) f in
       subst (λ (l : Left). sound (l .stores .bytes) (l .stores .words) ≡ true) (sym e) (start-drawn objects links s told .drawn .isSound)
 
-  module _ (b : List ℕ) where
-    begun-by : readStep b objects links s ≡ begunStep b objects links (toldBy a .number) s₁
-    unfolding readStep
-    begun-by = ap (λ (l : Left). begunStep b objects links (l .told .number) (l .stores)) (sym e)
+  module _ (ops : List Op) where
+    begun-by : opsStep ops objects links s ≡ begunStep ops objects links (toldBy a .number) s₁
+    unfolding opsStep
+    begun-by = ap (λ (l : Left). begunStep ops objects links (l .told .number) (l .stores)) (sym e)
 
-    pub start-refused : {why : Refusal} {k : Tally} {r : ReadAnswer} → a ≡ Answer.Refused why k → r ≡ startedOf a → leftRead r s₁ ≡ readStep b objects links s
+    pub start-refused : {why : Refusal} {k : Tally} {r : ReadAnswer} → a ≡ Answer.Refused why k → r ≡ startedOf a → leftRead r s₁ ≡ opsStep ops objects links s
     start-refused {why} f g =
         sym (begun-by
-        ∙ ap (λ z. begunStep b objects links (toldBy z .number) s₁) f
+        ∙ ap (λ z. begunStep ops objects links (toldBy z .number) s₁) f
         ∙ rw (ne-eqb (number why) 0 (λ q. omega (arith, refused-number why))) (sym (ap (λ z. leftRead z s₁) (g ∙ ap (λ z. startedOf z) f))))
 
-    module _ {k : Tally} (f : a ≡ Answer.Done k) {p : Performed} {t : Stores} (x : RanBy (gsubOps b) 0 s₁ p t) where
-      settled-by : readStep b objects links s ≡ settled objects links (outcomeOf p t)
-      settled-by = begun-by ∙ ap (λ z. begunStep b objects links (toldBy z .number) s₁) f ∙ ap (λ o. settled objects links o) (x .ran)
+    module _ {k : Tally} (f : a ≡ Answer.Done k) {p : Performed} {t : Stores} (x : RanBy ops 0 s₁ p t) where
+      settled-by : opsStep ops objects links s ≡ settled objects links (outcomeOf p t)
+      settled-by = begun-by ∙ ap (λ z. begunStep ops objects links (toldBy z .number) s₁) f ∙ ap (λ o. settled objects links o) (x .ran)
 
-      pub read-done : {i : ObjectId} {c : Tally} → p ≡ Performed.On i → c ≡ tallyIn (t .bytes) (t .words) → leftRead (Done i c) t ≡ readStep b objects links s
+      pub read-done : {i : ObjectId} {c : Tally} → p ≡ Performed.On i → c ≡ tallyIn (t .bytes) (t .words) → leftRead (Done i c) t ≡ opsStep ops objects links s
       read-done {i} g h = sym (settled-by ∙ ap (λ z. settled objects links (outcomeOf z t)) g ∙ ap (λ z. leftRead (Done i z) t) (sym h))
 
       pub read-refused : {u : Stores} {again : Told} {r : ReadAnswer} → ((j : ObjectId) → p ≡ Performed.On j → ⊥) → left again (u .bytes) (u .words) ≡ stepOn (start objects links) t → r ≡ handedOf p
-          → leftRead r u ≡ readStep b objects links s
+          → leftRead r u ≡ opsStep ops objects links s
       read-refused {u} n g h = sym (settled-by ∙ go p n ∙ ap (λ z. leftRead z u) (sym h))
         where
           go : (p : Performed) → ((j : ObjectId) → p ≡ Performed.On j → ⊥) → settled objects links (outcomeOf p t) ≡ leftRead (handedOf p) u

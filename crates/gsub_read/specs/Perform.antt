@@ -13,6 +13,7 @@ use Rattle.layout.specs.Sound.{sound}
 use Rattle.steps.specs.Runs.{Stores}
 use Rattle.steps.specs.Mirrored.{byStores}
 use Rattle.gsub.specs.Ops.{badTable, Op, begin, put, link, end, stop, Outcome, outcome, perform}
+use Rattle.gsub.specs.Promote.{newBytes}
 use Rattle.gsub_walk.specs.declared.walk.Move.{Move}
 use Rattle.gsub_walk.specs.declared.walk.Move.the-variants as Move
 use Rattle.gsub_walk.specs.Fields.{mostWidth}
@@ -45,6 +46,7 @@ pub record PerformedBy (some : List Op) (i : ℕ) (s : Stores) (r : Performed) (
 abbrev pub opsOf : List ℕ → Move → List Op
 opsOf b Move.Begin = begin ∷ []
 opsOf b (Move.Put at width) = put (part at (at + width) b) ∷ []
+opsOf b (Move.New at width) = put (part at (at + width) newBytes) ∷ []
 opsOf b (Move.Link width) = link width ∷ []
 opsOf b Move.End = end ∷ []
 opsOf b (Move.Stop p) = stop p ∷ []
@@ -54,6 +56,7 @@ opsOf b Move.Done = []
 unfoldable pub MoveOk : List ℕ → Move → Type 0
 MoveOk b Move.Begin = Unit {0}
 MoveOk b (Move.Put at width) = at + width ≤ length b
+MoveOk b (Move.New at width) = at + width ≤ length newBytes
 MoveOk b (Move.Link width) = width ≤ mostWidth
 MoveOk b Move.End = Unit {0}
 MoveOk b (Move.Stop p) = Unit {0}

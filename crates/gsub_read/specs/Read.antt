@@ -71,12 +71,15 @@ settled objects links o =
     }
 
 -- from what a start told and left
-abbrev pub begunStep : List ℕ → ℕ → ℕ → ℕ → Stores → ReadLeft
-begunStep b objects links n s =
-    pick (eqb n 0) (settled objects links (perform byStores (gsubOps b) 0 s)) (record { told = refusedRead n 0; stores = s })
+abbrev pub begunStep : List Op → ℕ → ℕ → ℕ → Stores → ReadLeft
+begunStep ops objects links n s =
+    pick (eqb n 0) (settled objects links (perform byStores ops 0 s)) (record { told = refusedRead n 0; stores = s })
 
-unfoldable pub readStep : List ℕ → ℕ → ℕ → Stores → ReadLeft
-readStep b objects links s = let l = stepOn (start objects links) s in begunStep b objects links (l .told .number) (l .stores)
+unfoldable pub opsStep : List Op → ℕ → ℕ → Stores → ReadLeft
+opsStep ops objects links s = let l = stepOn (start objects links) s in begunStep ops objects links (l .told .number) (l .stores)
+
+abbrev pub readStep : List ℕ → ℕ → ℕ → Stores → ReadLeft
+readStep b = opsStep (gsubOps b)
 
 -- ---- a refusal handed on
 
@@ -100,23 +103,32 @@ callsIn call (link w ∷ ops) i s = calls.link w i 0 ∷ callsIn call ops i (cal
 callsIn call (end ∷ ops) i s = let t = call calls.close s in calls.close ∷ callsIn call ops (t .id) (t .next)
 callsIn call (stop p ∷ ops) i s = []
 
-module _ (n : Needs) (bytes words : ℕ) (b : List ℕ) (objects links : ℕ) where
-  abbrev readLimits : Limits
-  readLimits = record { objects = objects; links = links; bytes = bytes }
+module _ (n : Needs) (bytes words : ℕ) where
+  abbrev limitsWith : ℕ → ℕ → Limits
+  limitsWith objects links = record { objects = objects; links = links; bytes = bytes }
 
-  -- what the ops come to on the history that a start begins
-  abbrev pub historyRead : Outcome History
-  historyRead = perform (byHistory n bytes words) (gsubOps b) 0 (begun readLimits)
+  -- what ops come to on the history that a start begins
+  abbrev pub historyRead : List Op → ℕ → ℕ → Outcome History
+  historyRead ops objects links = perform (byHistory n bytes words) ops 0 (begun (limitsWith objects links))
 
-  -- what a read must tell
-  unfoldable pub readExpected : ReadTold
-  readExpected =
-      let k = numberOf (judgeStart readLimits (n .records readLimits) words) in
-      pick (eqb k 0) (toldOf counts historyRead) (refusedRead k 0)
+  -- what they must tell
+  unfoldable pub opsExpected : List Op → ℕ → ℕ → ReadTold
+  opsExpected ops objects links =
+      let m = limitsWith objects links in
+      let k = numberOf (judgeStart m (n .records m) words) in
+      pick (eqb k 0) (toldOf counts (historyRead ops objects links)) (refusedRead k 0)
 
-  -- the calls that it stands for: its start and what its ops make, or where it is refused its start alone
-  unfoldable pub readCalls : List StoreCall
-  readCalls = start objects links ∷ pick (eqb (readExpected .number) 0) (callsIn (byHistory n bytes words) (gsubOps b) 0 (begun readLimits)) []
+  -- the calls that they stand for: the start and what they make, or where they are refused the start alone
+  unfoldable pub opsCalls : List Op → ℕ → ℕ → List StoreCall
+  opsCalls ops objects links =
+      start objects links ∷ pick (eqb (opsExpected ops objects links .number) 0) (callsIn (byHistory n bytes words) ops 0 (begun (limitsWith objects links))) []
+
+  -- of a read
+  abbrev pub readExpected : List ℕ → ℕ → ℕ → ReadTold
+  readExpected b = opsExpected (gsubOps b)
+
+  abbrev pub readCalls : List ℕ → ℕ → ℕ → List StoreCall
+  readCalls b = opsCalls (gsubOps b)
 
 -- the numbers that a read can tell: its start's, and those of its ops
 abbrev pub readTells : ℕ → Bool

@@ -11,13 +11,42 @@ pub use answers::BAD_TABLE;
 pub use answers::ReadAnswer;
 use answers::handed_on;
 use answers::not_started;
+use gsub::Mode;
 use perform::Performed;
 use run::read_begun;
 use session::start;
 use session::tally_sound;
 ghost use mathlib.Core.Path.{_≡_};
 ghost use Rattle.steps.specs.Runs.{stores};
-ghost use Rattle.gsub_read.specs.Read.{toldByRead, readLeft, readStep};
+ghost use Rattle.gsub.specs.declared.Kind.the-variants.{Header};
+ghost use Rattle.gsub.specs.Meaning.{deepest};
+ghost use Rattle.gsub.specs.Promote.{modeOps};
+ghost use Rattle.gsub_walk.specs.Fields.{Fits};
+ghost use Rattle.gsub_read.specs.Read.{toldByRead, readLeft, opsStep, readStep};
+
+// A read in a mode, for proved callers.
+pub fn read_in(
+    store: &mut [u8],
+    records: &mut [u32],
+    objects: u32,
+    links: u32,
+    table: &[u8],
+    mode: Mode,
+) -> ReadAnswer
+    requires { ⌜ Fits mode Header ⌝ }
+    ensures { λ r. ⌜ readLeft (toldByRead r) (now (store .exit)) (now (records .exit)) ≡ opsStep (modeOps deepest (now (table .entry)) mode Header 0) objects links (stores (now (store .entry)) (now (records .entry))) ⌝ }
+{
+    let a = start(store, records, objects, links);
+    let Answer::Done(_) = a else {
+        return not_started(a);
+    };
+    let p = read_begun(store, records, table, mode);
+    let Performed::On(id) = p else {
+        start(store, records, objects, links);
+        return handed_on(p);
+    };
+    ReadAnswer::Done(id, tally_sound(store, records))
+}
 
 // The session is started with these limits, and the table read into it. 13 as start tells it; 15 with the place of the first field that no GSUB 1.0
 // table has there; 6, 7, 8 and 16 as the session tells them. After any refusal but 13 the session is as freshly started.
@@ -30,14 +59,5 @@ pub fn read_gsub(
 ) -> ReadAnswer
     ensures { λ r. ⌜ readLeft (toldByRead r) (now (store .exit)) (now (records .exit)) ≡ readStep (now (table .entry)) objects links (stores (now (store .entry)) (now (records .entry))) ⌝ }
 {
-    let a = start(store, records, objects, links);
-    let Answer::Done(_) = a else {
-        return not_started(a);
-    };
-    let p = read_begun(store, records, table);
-    let Performed::On(id) = p else {
-        start(store, records, objects, links);
-        return handed_on(p);
-    };
-    ReadAnswer::Done(id, tally_sound(store, records))
+    read_in(store, records, objects, links, table, Mode::Plain)
 }

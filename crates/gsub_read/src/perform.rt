@@ -3,6 +3,7 @@ use answer::Answer;
 use answer::Closing;
 use answer::ObjectId;
 use answer::Refusal;
+use gsub::NEW;
 use gsub_walk::walk::Move;
 use session::close_sound;
 use session::link_sound;
@@ -11,10 +12,13 @@ use session::put_sound;
 ghost use mathlib.Core.Path.{_≡_};
 ghost use mathlib.Core.Bool.{true};
 ghost use mathlib.Core.List.{[], _∷_};
-ghost use Prim.Native.Nat.{ℕ};
+ghost use Prim.Native.Nat.{ℕ, _+_, _≤_};
+ghost use lib.ListN.{length};
+ghost use Rattle.lists.specs.Lists.{part};
 ghost use Rattle.layout.specs.Sound.{sound};
 ghost use Rattle.steps.specs.Runs.{stores};
 ghost use Rattle.gsub.specs.Ops.{begin as beginOp, put as putOp, link as linkOp, end as endOp};
+ghost use Rattle.gsub.specs.Promote.{newBytes};
 ghost use Rattle.gsub_read.specs.Perform.{afterOf, PerformedBy, opsOf, MoveOk};
 
 // What moves came to: the id of the object closed last; refusal 15 with its place; a session refusal.
@@ -70,6 +74,22 @@ fn end(store: &mut [u8], records: &mut [u32]) -> Performed
     }
 }
 
+// Bytes that stand in no table.
+fn put_new(
+    store: &mut [u8],
+    records: &mut [u32],
+    at: usize,
+    width: usize,
+    last: ObjectId,
+) -> Performed
+    requires { ⌜ (sound (now store) (now records) ≡ true) × (at + width ≤ length newBytes) ⌝ }
+    ensures { λ r. ⌜ PerformedBy (putOp (part at (at + width) newBytes) ∷ []) (last .0) (stores (now (store .entry)) (now (records .entry))) r (stores (now (store .exit)) (now (records .exit))) ⌝ }
+{
+    let to = at + width;
+    let new = NEW;
+    put(store, records, &new[at..to], last)
+}
+
 // A move of a walk through the table.
 pub fn perform(
     store: &mut [u8],
@@ -87,6 +107,7 @@ pub fn perform(
             let to = at + width;
             put(store, records, &table[at..to], last)
         }
+        Move::New(at, width) => put_new(store, records, at, width, last),
         Move::Link(width) => link(store, records, width as u32, last),
         Move::End => end(store, records),
         Move::Stop(p) => Performed::Bad(p),

@@ -4,6 +4,7 @@ use crate::perform::begin;
 use crate::perform::perform;
 use answer::ObjectId;
 use gsub::Kind;
+use gsub::Mode;
 use gsub_walk::walk::Walk;
 use gsub_walk::walk::begun;
 use gsub_walk::walk::step;
@@ -13,7 +14,10 @@ ghost use Rattle.layout.specs.Sound.{sound};
 ghost use Rattle.steps.specs.Runs.{stores};
 ghost use Rattle.gsub_walk.specs.Rest.{Standing, restOf};
 ghost use Rattle.gsub_read.specs.Perform.{RanBy};
-ghost use Rattle.gsub_read.specs.Read.{gsubOps};
+ghost use Rattle.gsub.specs.declared.Kind.the-variants.{Header};
+ghost use Rattle.gsub.specs.Meaning.{deepest};
+ghost use Rattle.gsub.specs.Promote.{modeOps};
+ghost use Rattle.gsub_walk.specs.Fields.{Fits};
 
 // To the walk's end, or to the first refusal.
 fn run(store: &mut [u8], records: &mut [u32], table: &[u8], w: Walk, first: ObjectId) -> Performed
@@ -36,15 +40,15 @@ fn run(store: &mut [u8], records: &mut [u32], table: &[u8], w: Walk, first: Obje
     Performed::On(last)
 }
 
-// The whole table, into a session that is begun.
-pub fn read_begun(store: &mut [u8], records: &mut [u32], table: &[u8]) -> Performed
-    requires { ⌜ sound (now store) (now records) ≡ true ⌝ }
-    ensures { λ r. ⌜ RanBy (gsubOps (now (table .entry))) 0 (stores (now (store .entry)) (now (records .entry))) r (stores (now (store .exit)) (now (records .exit))) ⌝ }
+// The whole table in a mode, into a session that is begun.
+pub fn read_begun(store: &mut [u8], records: &mut [u32], table: &[u8], mode: Mode) -> Performed
+    requires { ⌜ (sound (now store) (now records) ≡ true) × Fits mode Header ⌝ }
+    ensures { λ r. ⌜ RanBy (modeOps deepest (now (table .entry)) mode Header 0) 0 (stores (now (store .entry)) (now (records .entry))) r (stores (now (store .exit)) (now (records .exit))) ⌝ }
 {
     let p = begin(store, records, ObjectId(0));
     let Performed::On(id) = p else {
         return p;
     };
-    let w = begun(Kind::Header, 0);
+    let w = begun(mode, Kind::Header, 0);
     run(store, records, table, w, id)
 }

@@ -29,6 +29,7 @@ module _ (b : List ℕ) (w next : Walk) where
       go : (m : Move) → MovesBy b w m next → GoesOn m (On v) → Walked
       go Move.Begin h g = gone h
       go (Move.Put at width) h g = gone (h .0)
+      go (Move.New at width) h g = gone (h .0)
       go (Move.Link width) h g = gone (h .0)
       go Move.End h g = gone h
       go (Move.Stop p) h g = absurd g

@@ -9,6 +9,7 @@ unfoldable pub GoesOn : Move → Counted → Type 0
 GoesOn m Over = Unit {0}
 GoesOn Move.Begin (On v) = Unit {0}
 GoesOn (Move.Put at width) (On v) = Unit {0}
+GoesOn (Move.New at width) (On v) = Unit {0}
 GoesOn (Move.Link width) (On v) = Unit {0}
 GoesOn Move.End (On v) = Unit {0}
 GoesOn (Move.Stop p) (On v) = ⊥

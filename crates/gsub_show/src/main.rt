@@ -1,17 +1,19 @@
-// Shows the GSUB table of standard input: its scripts, features and lookups, what stays of it where equal objects are kept once, and that the packed
-// table substitutes the same.
+// Shows the GSUB table of standard input: its scripts, features and lookups, how many lookups are promoted, what stays of it where equal objects are kept
+// once, and that the packed table substitutes the same.
 mod names;
 mod substitutes;
 mod visits;
 
 use answer::Tally;
+use gsub_promote::PromoteAnswer;
 use names::features;
 use names::scripts;
 use report::text;
 use report::value;
-use report_gsub::Repacked;
+use report_gsub::LONGEST;
 use report_gsub::goes_on;
 use report_gsub::tell;
+use report_gsub::tell_promoted;
 use report_gsub::tell_too_long;
 use substitutes::differing;
 use substitutes::lookups;
@@ -25,9 +27,11 @@ fn objects(name: &[u8], n: u64, bytes: u64) {
     text(b" bytes\n");
 }
 
-fn kept(table: &[u8], held: Tally) {
+// The table as it stands, and what the session holds of it, the Extensions of promoted lookups among it.
+fn kept(table: &[u8], promoted: usize, held: Tally) {
     let v = visits(table);
     objects(b"read: ", v.objects, v.bytes);
+    tell_promoted(OUTPUT, promoted);
     objects(
         b"equal ones kept once: ",
         held.objects as u64,
@@ -47,9 +51,9 @@ fn compare(table: &[u8], packed: &[u8]) {
 
 // In a second session.
 fn read_again(table: &[u8], packed: &[u8]) {
-    let mut out = io::large_buffer();
+    let mut out: [u8; LONGEST] = [0; LONGEST];
     let told = report_gsub::repack(packed, &mut out);
-    let Repacked::Done(_, _) = told else {
+    let PromoteAnswer::Done(_, _, _, _) = told else {
         text(b"read again: ");
         tell(OUTPUT, told);
         return;
@@ -67,21 +71,21 @@ fn show_packed(table: &[u8], out: &[u8], length: usize) {
 }
 
 fn show(table: &[u8]) {
-    let mut out = io::large_buffer();
+    let mut out: [u8; LONGEST] = [0; LONGEST];
     let told = report_gsub::repack(table, &mut out);
-    let Repacked::Done(length, held) = told else {
+    let PromoteAnswer::Done(promoted, _, length, held) = told else {
         tell(OUTPUT, told);
         return;
     };
     scripts(table);
     features(table);
     lookups(table);
-    kept(table, held);
+    kept(table, promoted, held);
     show_packed(table, &out, length);
 }
 
 fn main() {
-    let mut input = io::large_buffer();
+    let mut input: [u8; LONGEST] = [0; LONGEST];
     let n = io::read_full(0, &mut input);
     if goes_on() {
         tell_too_long(OUTPUT);

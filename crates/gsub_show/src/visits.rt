@@ -1,5 +1,6 @@
 // How many tables a read visits and how many bytes it puts, each as often as an offset leads there.
 use gsub::Kind;
+use gsub::Mode;
 use gsub_walk::walk::Move;
 use gsub_walk::walk::begun;
 use gsub_walk::walk::step;
@@ -49,6 +50,7 @@ fn with_move(v: Visited, m: Move) -> Counted
     match m {
         Move::Begin => Counted::On(v),
         Move::Put(_, width) => Counted::On(put(v, width)),
+        Move::New(_, width) => Counted::On(put(v, width)),
         Move::Link(width) => Counted::On(put(v, width)),
         Move::End => Counted::On(closed(v)),
         Move::Stop(_) => Counted::Over,
@@ -57,7 +59,7 @@ fn with_move(v: Visited, m: Move) -> Counted
 }
 
 pub fn visits(table: &[u8]) -> Visited {
-    let mut walk = begun(Kind::Header, 0);
+    let mut walk = begun(Mode::Plain, Kind::Header, 0);
     let mut v = Visited {
         objects: 0,
         bytes: 0,

@@ -5,7 +5,7 @@ use mathlib.Core.Bool.{_&&_}
 use native.Mathlib.Omega.{arith}
 use lib.Dec.{eqb, leb}
 use Rattle.lists.specs.Lists.{pick}
-use Rattle.gsub.specs.Substitute.{Index, none, at, inGlyphs, inRanges, coverageIndex, settled, bySubtables}
+use Rattle.gsub.specs.Substitute.{Index, none, at, inGlyphs, inRanges, coverageIndex, settled, subtable, bySubtables}
 
 module _ {T : Type 0} (word : T → ℕ → ℕ) (child : T → ℕ → T) (t : T) (g i n : ℕ) where
   -- all are passed
@@ -21,9 +21,9 @@ module _ {T : Type 0} (word : T → ℕ → ℕ) (child : T → ℕ → T) (t : 
     unfolding inRanges
     ranges-end = rw no-left
 
-    pub subtables-end : bySubtables word child t g i (n - i) ≡ g
+    pub subtables-end : (far : T → ℕ → T) → bySubtables word child far t g i (n - i) ≡ g
     unfolding bySubtables
-    subtables-end = rw no-left
+    subtables-end far = rw no-left
 
   -- one is looked at
   module _ (h : i < n) where
@@ -39,7 +39,7 @@ module _ {T : Type 0} (word : T → ℕ → ℕ) (child : T → ℕ → T) (t : 
     unfolding inRanges
     ranges-next = rw one-left
 
-    pub subtables-next : {s c : T} {x : Index} → s ≡ child t (6 + 2 * i) → c ≡ child s 2 → coverageIndex word child c g ≡ x
-        → bySubtables word child t g i (n - i) ≡ settled word child s g x (bySubtables word child t g (i + 1) (n - (i + 1)))
+    pub subtables-next : (far : T → ℕ → T) {s c : T} {x : Index} → s ≡ subtable word child far t i → c ≡ child s 2 → coverageIndex word child c g ≡ x
+        → bySubtables word child far t g i (n - i) ≡ settled word child s g x (bySubtables word child far t g (i + 1) (n - (i + 1)))
     unfolding bySubtables
-    subtables-next e f h = rw (one-left, ← e, ← f, h)
+    subtables-next far e f h = rw (one-left, ← e, ← f, h)

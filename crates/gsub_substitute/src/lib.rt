@@ -3,11 +3,14 @@ use gsub::word_at;
 ghost use mathlib.Core.Path.{_≡_};
 ghost use Prim.Native.Nat.{_+_, _*_, _≤_, _<_};
 ghost use Rattle.big_endian.specs.BigEndian.{capacity};
-ghost use Rattle.gsub.specs.Substitute.{inGlyphs, inRanges, coverageIndex, single as singleIn, bySubtables, wordFrom, childFrom, substituteFrom};
-ghost use Rattle.gsub_substitute.specs.Found.{indexOf};
+ghost use Rattle.gsub.specs.Substitute.{inGlyphs, inRanges, coverageIndex, single as singleIn, subtable, bySubtables, wordFrom, childFrom, farFrom, substituteFrom};
+ghost use Rattle.gsub_substitute.specs.Found.{indexOf, farthest};
 
 // How many numbers a glyph's 16 bits hold.
 const GLYPHS: usize = 1 << 16;
+
+// What the first half of a 32-bit number counts.
+const HIGH: usize = 1 << 16;
 
 // A glyph's coverage index.
 enum Index {
@@ -17,15 +20,24 @@ enum Index {
 
 // The table that the offset at `at` of the table at `place` leads to.
 fn child(table: &[u8], place: usize, at: usize) -> usize
-    requires { ⌜ (place ≤ 3 * capacity 2) × (at ≤ 4 * capacity 2) ⌝ }
+    requires { ⌜ (place ≤ farthest) × (at ≤ 4 * capacity 2) ⌝ }
     ensures { λ r. ⌜ (r ≡ childFrom (now (table .entry)) place at) × (r < place + capacity 2) ⌝ }
 {
     place + word_at(table, place + at)
 }
 
+// The table that the offset of four bytes there leads to.
+fn far_child(table: &[u8], place: usize, at: usize) -> usize
+    requires { ⌜ (place ≤ 3 * capacity 2) × (at ≤ 4 * capacity 2) ⌝ }
+    ensures { λ r. ⌜ (r ≡ farFrom (now (table .entry)) place at) × (r ≤ farthest) ⌝ }
+{
+    let from = place + at;
+    place + (word_at(table, from) * HIGH + word_at(table, from + 2))
+}
+
 // The first glyph of a Coverage that is this one.
 fn in_glyphs(table: &[u8], coverage: usize, glyph: usize) -> Index
-    requires { ⌜ coverage ≤ 4 * capacity 2 ⌝ }
+    requires { ⌜ coverage ≤ farthest + capacity 2 ⌝ }
     ensures { λ r. ⌜ indexOf r ≡ inGlyphs (wordFrom (now (table .entry))) (childFrom (now (table .entry))) coverage glyph 0 (wordFrom (now (table .entry)) coverage 2) ⌝ }
 {
     let count = word_at(table, coverage + 2);
@@ -41,7 +53,7 @@ fn in_glyphs(table: &[u8], coverage: usize, glyph: usize) -> Index
 
 // The first range of a Coverage that holds the glyph.
 fn in_ranges(table: &[u8], coverage: usize, glyph: usize) -> Index
-    requires { ⌜ (coverage ≤ 4 * capacity 2) × (glyph < capacity 2) ⌝ }
+    requires { ⌜ (coverage ≤ farthest + capacity 2) × (glyph < capacity 2) ⌝ }
     ensures { λ r. ⌜ indexOf r ≡ inRanges (wordFrom (now (table .entry))) (childFrom (now (table .entry))) coverage glyph 0 (wordFrom (now (table .entry)) coverage 2) ⌝ }
 {
     let count = word_at(table, coverage + 2);
@@ -58,7 +70,7 @@ fn in_ranges(table: &[u8], coverage: usize, glyph: usize) -> Index
 }
 
 fn coverage_index(table: &[u8], coverage: usize, glyph: usize) -> Index
-    requires { ⌜ (coverage ≤ 4 * capacity 2) × (glyph < capacity 2) ⌝ }
+    requires { ⌜ (coverage ≤ farthest + capacity 2) × (glyph < capacity 2) ⌝ }
     ensures { λ r. ⌜ indexOf r ≡ coverageIndex (wordFrom (now (table .entry))) (childFrom (now (table .entry))) coverage glyph ⌝ }
 {
     if word_at(table, coverage) == 1 {
@@ -69,7 +81,7 @@ fn coverage_index(table: &[u8], coverage: usize, glyph: usize) -> Index
 
 // The substitute of a glyph that the subtable covers.
 fn single(table: &[u8], subtable: usize, glyph: usize, index: usize) -> usize
-    requires { ⌜ (subtable ≤ 3 * capacity 2) × (glyph < capacity 2) ⌝ }
+    requires { ⌜ (subtable ≤ farthest) × (glyph < capacity 2) ⌝ }
     ensures { λ r. ⌜ (r ≡ singleIn (wordFrom (now (table .entry))) (childFrom (now (table .entry))) subtable glyph index) × (r < capacity 2) ⌝ }
 {
     let third = word_at(table, subtable + 4);
@@ -82,15 +94,27 @@ fn single(table: &[u8], subtable: usize, glyph: usize, index: usize) -> usize
     word_at(table, subtable + (6 + 2 * index))
 }
 
+// The subtable of number i of a Lookup, behind an Extension where its type is not 1.
+fn subtable_of(table: &[u8], lookup: usize, i: usize) -> usize
+    requires { ⌜ (lookup ≤ 2 * capacity 2) × (i < capacity 2) ⌝ }
+    ensures { λ r. ⌜ (r ≡ subtable (wordFrom (now (table .entry))) (childFrom (now (table .entry))) (farFrom (now (table .entry))) lookup i) × (r ≤ farthest) ⌝ }
+{
+    let place = child(table, lookup, 6 + 2 * i);
+    if word_at(table, lookup) == 1 {
+        return place;
+    }
+    far_child(table, place, 4)
+}
+
 // By the first subtable of a Lookup that covers the glyph.
 fn by_subtables(table: &[u8], lookup: usize, glyph: usize) -> usize
     requires { ⌜ (lookup ≤ 2 * capacity 2) × (glyph < capacity 2) ⌝ }
-    ensures { λ r. ⌜ (r ≡ bySubtables (wordFrom (now (table .entry))) (childFrom (now (table .entry))) lookup glyph 0 (wordFrom (now (table .entry)) lookup 4)) × (r < capacity 2) ⌝ }
+    ensures { λ r. ⌜ (r ≡ bySubtables (wordFrom (now (table .entry))) (childFrom (now (table .entry))) (farFrom (now (table .entry))) lookup glyph 0 (wordFrom (now (table .entry)) lookup 4)) × (r < capacity 2) ⌝ }
 {
     let count = word_at(table, lookup + 4);
     let mut i = 0;
     while i < count {
-        let subtable = child(table, lookup, 6 + 2 * i);
+        let subtable = subtable_of(table, lookup, i);
         let coverage = child(table, subtable, 2);
         let found = coverage_index(table, coverage, glyph);
         if let Index::At(index) = found {

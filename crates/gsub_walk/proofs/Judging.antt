@@ -1,8 +1,12 @@
 -- Each way through the judging of a field.
 use mathlib.Core.Path.{_≡_, refl, sym, ap, _∙_}
-use Prim.Native.Nat.{ℕ, _+_, _≤_, _<_}
+use Prim.Native.Nat.{ℕ, _+_, _-_, _≤_, _<_}
 use mathlib.Core.List.{List}
-use borrow.Author.Tests.{eq-eqb, ne-eqb, le-leb, lt-leb}
+use mathlib.Core.Bool.{Bool, true, false}
+use native.Mathlib.Decide.{decLe}
+use native.Mathlib.Omega.{arith}
+use borrow.Author.Tests.{eq-eqb, ne-eqb, le-leb, lt-leb, leb-true}
+use lib.Dec.{leb}
 use lib.ListN.{length}
 use Rattle.gsub.specs.declared.Kind.{Kind}
 use Rattle.gsub.specs.declared.Rule.{Rule}
@@ -44,11 +48,25 @@ module _ {rule : Rule} (v : ℕ) where
   unfolding byRule
   by-present k e f = along (ToOrNull k) e (rw (ne-eqb v 0 f))
 
-module _ (b : List ℕ) (at : ℕ) (f : Field) where
-  pub past-act : length b < at + f .width → refuse ≡ act b at f
+-- `inside` is whether the field lies in the slice
+module _ (b : List ℕ) (at : ℕ) (f : Field) {inside : Bool} (h : inside ≡ leb (at + f .width) (length b)) where
+  pub past-act : inside ≡ false → refuse ≡ act b at f
   unfolding act
-  past-act h = rw (lt-leb (at + f .width) (length b) h)
+  past-act e = rw (sym h ∙ e)
 
-  pub ruled-act : at + f .width ≤ length b → (v : ℕ) {a : Act} → v ≡ valueAt b at (f .width) → a ≡ byRule (f .rule) v → a ≡ act b at f
+  pub ruled-act : inside ≡ true → (v : ℕ) {a : Act} → v ≡ valueAt b at (f .width) → a ≡ byRule (f .rule) v → a ≡ act b at f
   unfolding act
-  ruled-act h v e g = rw (le-leb (at + f .width) (length b) h) (g ∙ ap (byRule (f .rule)) e)
+  ruled-act i v e g = rw (sym h ∙ i) (g ∙ ap (byRule (f .rule)) e)
+
+pub room-in : (at width long : ℕ) {inside : Bool} → inside ≡ leb (at + width) long → inside ≡ true → at + width ≤ long
+room-in at width long h e = leb-true (at + width) long (sym h ∙ e)
+
+pub no-room : (at width long : ℕ) → long < at → false ≡ leb (at + width) long
+no-room at width long h = sym (lt-leb (at + width) long (omega arith))
+
+pub in-room : (at width long : ℕ) → at ≤ long → leb width (long - at) ≡ leb (at + width) long
+in-room at width long h = go (decLe (at + width) long)
+  where
+    go : Dec (at + width ≤ long) → leb width (long - at) ≡ leb (at + width) long
+    go (yes l) = le-leb width (long - at) (omega arith) ∙ sym (le-leb (at + width) long l)
+    go (no l) = lt-leb width (long - at) (omega arith) ∙ sym (lt-leb (at + width) long (omega arith))

@@ -7,3 +7,5 @@ pub mod Judging
 pub mod Values
 pub mod Stacks
 pub mod Moving
+pub mod Children
+pub mod Moves

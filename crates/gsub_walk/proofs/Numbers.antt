@@ -1,17 +1,18 @@
 -- The numbers that no arm of a match names, and what they stand for.
-use mathlib.Core.Path.{_≡_, refl, sym, ap}
-use Prim.Native.Nat.{ℕ, zero, suc, _+_, _≤_}
+use mathlib.Core.Path.{_≡_, refl, sym, ap, _∙_}
+use Prim.Native.Nat.{ℕ, zero, suc, _+_, _-_, _≤_, _<_}
 use mathlib.Core.List.{List, [], _∷_}
 use mathlib.Core.Bool.{Bool, true, _&&_}
 use native.Mathlib.Omega.{arith}
 use borrow.Author.Tests.{eqb-true}
 use lib.Dec.{eqb}
-use lib.ListN.{length, getD, drop, List·getD-eq-default}
+use lib.ListN.{length, getD, take, drop, List·getD-eq-default}
+use lib.Seq.{getD-take, getD-drop}
 use Rattle.lists.proofs.Same.{and-left, and-right}
 use Rattle.gsub.specs.declared.Rule.{Rule}
 use Rattle.gsub.specs.declared.Rule.the-variants.{Any}
 use Rattle.gsub.specs.declared.Field.{Field}
-use Rattle.gsub.specs.Tables.{uint16, marked}
+use Rattle.gsub.specs.Tables.{tag, marked}
 use Rattle.gsub_walk.specs.Rows.{allTimes, timesOf, allFields, fieldOf}
 
 -- n is none of the m numbers from k on, which the arms of a match name
@@ -30,33 +31,33 @@ other-times (suc zero) h = absurd (h .1 refl)
 other-times (suc (suc zero)) h = refl
 other-times (suc (suc (suc n))) h = refl
 
--- UINT16, TAG, and what is past the last
-pub other-rule : (n : ℕ) → NoneOf n 2 13 → Any ≡ fieldOf n .rule
+-- UINT16, and TAG, which is past the last
+pub other-rule : (n : ℕ) → NoneOf n 1 16 → Any ≡ fieldOf n .rule
 unfolding allFields
 other-rule zero h = refl
-other-rule (suc zero) h = refl
-other-rule (suc (suc n)) h =
-    let past : length allFields ≤ suc (suc n) = none-of (suc (suc n)) 2 13 (omega arith) h in
-    ap (λ (f : Field). f .rule) (sym (List·getD-eq-default allFields uint16 past))
+other-rule (suc n) h =
+    let past : length allFields ≤ suc n = none-of (suc n) 1 16 (omega arith) h in
+    ap (λ (f : Field). f .rule) (sym (List·getD-eq-default allFields tag past))
 
-abbrev allTwo : List Field → Bool
-allTwo [] = true
-allTwo (f ∷ fs) = eqb (f .width) 2 && allTwo fs
+-- all are of this width
+abbrev allWide : ℕ → List Field → Bool
+allWide w [] = true
+allWide w (f ∷ fs) = eqb (f .width) w && allWide w fs
 
-two-at : (fs : List Field) (i : ℕ) → allTwo fs ≡ true → getD fs i uint16 .width ≡ 2
-two-at [] i t = refl
-two-at (f ∷ fs) zero t = eqb-true (f .width) 2 (and-left (eqb (f .width) 2) (allTwo fs) t)
-two-at (f ∷ fs) (suc i) t = two-at fs i (and-right (eqb (f .width) 2) (allTwo fs) t)
+wide-at : (w : ℕ) (fs : List Field) (i : ℕ) (d : Field) → allWide w fs ≡ true → (length fs ≤ i → w ≡ d .width) → w ≡ getD fs i d .width
+wide-at w [] i d t h = h (omega arith)
+wide-at w (f ∷ fs) zero d t h = sym (eqb-true (f .width) w (and-left (eqb (f .width) w) (allWide w fs) t))
+wide-at w (f ∷ fs) (suc i) d t h = wide-at w fs i d (and-right (eqb (f .width) w) (allWide w fs) t) (λ l. h (omega arith))
 
--- all but TAG are of two bytes
-other-width : (n : ℕ) → (n ≡ 1 → ⊥) → 2 ≡ fieldOf n .width
+pub two-wide : (n : ℕ) → n < 16 → 2 ≡ fieldOf n .width
 unfolding allFields
-other-width zero h = refl
-other-width (suc zero) h = absurd (h refl)
-other-width (suc (suc n)) h = sym (two-at (drop 2 allFields) n refl)
+two-wide n h = wide-at 2 (take 16 allFields) n tag refl (λ l. absurd (omega arith)) ∙ ap (λ (f : Field). f .width) (getD-take 16 allFields n tag h)
 
-same-field : (f : Field) (width : ℕ) (rule : Rule) → width ≡ f .width → rule ≡ f .rule → record { width = width; rule = rule } ≡ f
-same-field f width rule e g = rw (e, g)
+pub four-wide : (n : ℕ) → 16 ≤ n → 4 ≡ fieldOf n .width
+unfolding allFields
+four-wide n h =
+    let e : 16 + (n - 16) ≡ n = omega arith in
+    wide-at 4 (drop 16 allFields) (n - 16) tag refl (λ l. refl) ∙ ap (λ (f : Field). f .width) (getD-drop 16 allFields (n - 16) tag ∙ ap fieldOf e)
 
-pub other-field : (n : ℕ) → (n ≡ 1 → ⊥) → {rule : Rule} → rule ≡ fieldOf n .rule → record { width = 2; rule = rule } ≡ fieldOf n
-other-field n h e = same-field (fieldOf n) 2 _ (other-width n h) e
+pub same-field : (f : Field) {width : ℕ} {rule : Rule} → width ≡ f .width → rule ≡ f .rule → record { width = width; rule = rule } ≡ f
+same-field f e g = rw (e, g)

@@ -2,15 +2,19 @@
 use mathlib.Core.Path.{_≡_, refl, ap, _∙_}
 use Prim.Native.Nat.{ℕ, zero, suc, _+_, _-_, _≤_, _<_}
 use mathlib.Core.List.{List, _∷_}
+use mathlib.Core.Bool.{false}
 use native.Mathlib.Omega.{arith}
 use lib.ListN.{length, getD, set, length-set}
 use lib.Seq.{getD-set-same, getD-set-other}
 use Rattle.gsub.specs.declared.Kind.{Kind}
+use Rattle.gsub.specs.declared.Mode.{Mode}
+use Rattle.gsub.specs.declared.Mode.the-variants.{Plain, Last, Promoted, New}
 use Rattle.gsub.specs.Meaning.{deepest}
+use Rattle.gsub.specs.Promote.{placeIn}
 use Rattle.gsub_walk.specs.declared.walk.Frame.{Frame}
 use Rattle.gsub_walk.specs.declared.walk.Walk.{Walk}
-use Rattle.gsub_walk.specs.Fields.{farthest}
-use Rattle.gsub_walk.specs.Rest.{noFrame, stack, standing, nextOf, frameOf, FrameOk, FramesOk, Standing, advanced, linked, entered, left}
+use Rattle.gsub_walk.specs.Fields.{farthest, Fits}
+use Rattle.gsub_walk.specs.Rest.{noFrame, stack, standing, nextOf, frameOf, FrameOk, FramesOk, Standing, advanced, linked, left}
 
 stack-set : (l : List Frame) (d e : ℕ) (x : Frame) → e ≤ d → stack (set l d x) e ≡ stack l e
 unfolding stack
@@ -64,16 +68,24 @@ module _ (w : Walk) (s : Standing w) (o : 0 < w .depth) where
 
 -- ---- a child begun
 
-module _ (w : Walk) (s : Standing w) (l : w .depth < deepest) (k : Kind) (p : ℕ) where
-  pub entered-is : standing (entered w k p) ≡ frameOf k p ∷ standing w
+module _ (w : Walk) (s : Standing w) (l : w .depth < deepest) (f : Frame) where
+  abbrev pushed : Walk
+  pushed = record { depth = w .depth + 1; back = false; frames = set (w .frames) (w .depth) f }
+
+  pub entered-is : standing pushed ≡ f ∷ standing w
   entered-is =
       let e : w .depth + 1 ≡ suc (w .depth) = omega arith in
-      ap (λ d. stack (set (w .frames) (w .depth) (frameOf k p)) d) e ∙ stack-push (w .frames) (w .depth) (frameOf k p) (omega (arith, s .sized))
+      ap (λ d. stack (set (w .frames) (w .depth) f) d) e ∙ stack-push (w .frames) (w .depth) f (omega (arith, s .sized))
 
-  pub entered-stands : p ≤ farthest → Standing (entered w k p)
+  pub entered-stands : FrameOk f → Standing pushed
   unfolding FramesOk
-  entered-stands h = record {
-    deep = omega arith;
-    sized = length-set (w .frames) (w .depth) (frameOf k p) ∙ s .sized;
-    frames-ok = rw entered-is (record { near = omega arith; few = omega arith; narrow = omega arith }, s .frames-ok);
-  }
+  entered-stands h = record { deep = omega arith; sized = length-set (w .frames) (w .depth) f ∙ s .sized; frames-ok = rw entered-is (h, s .frames-ok) }
+
+pub frame-ok : (m : Mode) (k : Kind) (p : ℕ) → Fits m k → p ≤ farthest → FrameOk (frameOf m k p)
+frame-ok m k p t h = record { fits = t; begins = h; near = go m; few = omega arith; first = λ e. refl; narrow = omega arith }
+  where
+    go : (m : Mode) → placeIn m p + 0 ≤ farthest
+    go Plain = omega arith
+    go (Last n) = omega arith
+    go Promoted = omega arith
+    go New = omega arith

@@ -7,9 +7,9 @@ use lib.ListN.{length, getD, take, drop}
 use lib.Dec.{eqb, leb}
 use Rattle.lists.specs.Lists.{pick}
 use Rattle.gsub.specs.declared.Kind.{Kind}
-use Rattle.gsub.specs.declared.Kind.the-variants.{ScriptList, Script, LangSys, FeatureList, Feature, LookupList, Lookup, SingleSubst, Coverage}
+use Rattle.gsub.specs.declared.Kind.the-variants.{ScriptList, Script, LangSys, FeatureList, Feature, LookupList, Lookup, Extension, SingleSubst, Coverage}
 use Rattle.gsub.specs.declared.Field.{Field}
-use Rattle.gsub.specs.Tables.{uint16, tag, is, offset16, offset16OrNull, Run, Shape, once, count, before, marked, size, shape}
+use Rattle.gsub.specs.Tables.{uint16, tag, is, offset16, offset32, offset16OrNull, Run, Shape, once, count, before, marked, size, shape}
 use Rattle.gsub.specs.Tables as tables
 use Rattle.gsub_walk.specs.declared.rows.Times.{Times}
 use Rattle.gsub_walk.specs.declared.rows.Times.the-variants.{Once, Count, Before, Marked}
@@ -24,14 +24,14 @@ allTimes = once ∷ before 0 ∷ marked ∷ []
 abbrev pub timesOf : ℕ → tables.Times
 timesOf n = getD allTimes n marked
 
--- from UINT16 to TO_COVERAGE
+-- from UINT16 to FAR_TO_SINGLE_SUBST: fields of two bytes, and then of four; TAG is past them
 unfoldable pub allFields : List Field
 allFields =
     uint16
-    ∷ tag
     ∷ is 0
     ∷ is 1
     ∷ is 2
+    ∷ is 7
     ∷ offset16 ScriptList
     ∷ offset16 Script
     ∷ offset16 LangSys
@@ -40,12 +40,14 @@ allFields =
     ∷ offset16 Feature
     ∷ offset16 LookupList
     ∷ offset16 Lookup
+    ∷ offset16 Extension
     ∷ offset16 SingleSubst
     ∷ offset16 Coverage
+    ∷ offset32 SingleSubst
     ∷ []
 
 abbrev pub fieldOf : ℕ → Field
-fieldOf n = getD allFields n uint16
+fieldOf n = getD allFields n tag
 
 abbrev pub asTimes : Times → tables.Times
 asTimes Once = once

@@ -11,12 +11,15 @@ use crate::rows::row_of;
 use crate::rows::times_of;
 use gsub::Field;
 use gsub::Kind;
+use gsub::Mode;
+use gsub::NEW;
 use gsub::word_at;
 ghost use mathlib.Core.Path.{_≡_};
 ghost use Prim.Native.Nat.{_+_, _-_, _<_, _≤_, _^_};
 ghost use Rattle.big_endian.specs.BigEndian.{capacity};
 ghost use Rattle.gsub.specs.Tables.{wordAt, fieldsAt, often as oftenOf, laid};
-ghost use Rattle.gsub_walk.specs.Fields.{Found, farthest};
+ghost use Rattle.gsub.specs.Promote.{bytesIn, placeIn};
+ghost use Rattle.gsub_walk.specs.Fields.{Found, Fits, farthest};
 ghost use Rattle.gsub_walk.specs.Rows.{asTimes, shapeOf, RightRow};
 
 // The bytes of a count.
@@ -27,13 +30,16 @@ const LOOKUP_FLAG: usize = 2;
 
 const USE_MARK_FILTERING_SET: usize = 16;
 
+// The lookupType of a promoted Lookup.
+const EXTENSION_TYPE: usize = 7;
+
 pub enum Next {
     Some(Field),
     None,
 }
 
 // a less b, zero where b is more.
-fn less(a: usize, b: usize) -> usize
+pub fn less(a: usize, b: usize) -> usize
     ensures { λ r. ⌜ r ≡ a - b ⌝ }
 {
     if a < b {
@@ -87,10 +93,23 @@ fn in_runs(table: &[u8], place: usize, row: Row, index: usize) -> Next
 }
 
 // The field of number `index` of the table of this kind at `place`.
-pub fn next_field(table: &[u8], kind: Kind, place: usize, index: usize) -> Next
+fn next_field(table: &[u8], kind: Kind, place: usize, index: usize) -> Next
     requires { ⌜ place ≤ farthest ⌝ }
     ensures { λ r. ⌜ Found (fieldsAt (now (table .entry)) kind place) index r ⌝ }
 {
     let row = row_of(kind, word_at(table, place));
     in_runs(table, place, row, index)
+}
+
+// Of the table as it is read in this mode.
+pub fn next_in(table: &[u8], mode: Mode, kind: Kind, place: usize, index: usize) -> Next
+    requires { ⌜ (place ≤ farthest) × Fits mode kind ⌝ }
+    ensures { λ r. ⌜ Found (fieldsAt (bytesIn (now (table .entry)) mode place) kind (placeIn mode place)) index r ⌝ }
+{
+    match mode {
+        Mode::Plain => next_field(table, kind, place, index),
+        Mode::Last(_) => next_field(table, kind, place, index),
+        Mode::Promoted => in_runs(table, place, row_of(kind, EXTENSION_TYPE), index),
+        Mode::New => next_field(&NEW, kind, 0, index),
+    }
 }

@@ -3,6 +3,9 @@ use gsub::Act;
 use gsub::Field;
 use gsub::Rule;
 ghost use mathlib.Core.Path.{_≡_};
+ghost use Prim.Native.Nat.{_+_};
+ghost use lib.ListN.{length};
+ghost use lib.Dec.{leb};
 ghost use Rattle.gsub.specs.Ops.{byRule as actOf, act};
 ghost use Rattle.gsub_walk.specs.Fields.{Narrow};
 
@@ -17,6 +20,16 @@ fn by_rule(rule: Rule, v: usize) -> Act
     }
 }
 
+// A field of this width lies in the slice.
+pub fn lies_in(table: &[u8], at: usize, width: usize) -> bool
+    ensures { λ r. ⌜ r ≡ leb (at + width) (length (now (table .entry))) ⌝ }
+{
+    if table.len() < at {
+        return false;
+    }
+    width <= table.len() - at
+}
+
 // The field at `at`: refused where it passes the slice's end, else by its number.
 pub fn judge(table: &[u8], at: usize, f: Field) -> Act
     requires { ⌜ Narrow f ⌝ }
@@ -24,11 +37,8 @@ pub fn judge(table: &[u8], at: usize, f: Field) -> Act
 {
     let width = f.width;
     let rule = f.rule;
-    if table.len() < at {
-        return Act::Refuse;
+    if lies_in(table, at, width) {
+        return by_rule(rule, big_endian::read(table, at, width) as usize);
     }
-    if table.len() - at < width {
-        return Act::Refuse;
-    }
-    by_rule(rule, big_endian::read(table, at, width) as usize)
+    Act::Refuse
 }

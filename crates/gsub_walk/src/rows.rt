@@ -3,7 +3,8 @@ use gsub::Field;
 use gsub::Kind;
 use gsub::Rule;
 ghost use mathlib.Core.Path.{_≡_};
-ghost use Rattle.gsub_walk.specs.Fields.{Narrow};
+ghost use Prim.Native.Nat.{_≤_};
+ghost use Rattle.gsub_walk.specs.Fields.{mostWidth, Narrow};
 ghost use Rattle.gsub_walk.specs.Rows.{fieldOf, timesOf, asTimes, RowOf};
 
 // How often the fields of a run stand in a table: once; as often as the number at this place of the table says, less so many; as the number just before
@@ -39,16 +40,16 @@ const MANY: usize = 1;
 
 const IF_MARKED: usize = 2;
 
-// Fields: any number, a tag, a number that must be this one, an offset to a table.
+// Fields of two bytes: any number, a number that must be this one, an offset to a table.
 const UINT16: usize = 0;
 
-const TAG: usize = 1;
+const IS_0: usize = 1;
 
-const IS_0: usize = 2;
+const IS_1: usize = 2;
 
-const IS_1: usize = 3;
+const IS_2: usize = 3;
 
-const IS_2: usize = 4;
+const IS_7: usize = 4;
 
 const TO_SCRIPT_LIST: usize = 5;
 
@@ -66,9 +67,16 @@ const TO_LOOKUP_LIST: usize = 11;
 
 const TO_LOOKUP: usize = 12;
 
-const TO_SINGLE_SUBST: usize = 13;
+const TO_EXTENSION: usize = 13;
 
-const TO_COVERAGE: usize = 14;
+const TO_SINGLE_SUBST: usize = 14;
+
+const TO_COVERAGE: usize = 15;
+
+// Of four bytes, from here on: an offset, a tag.
+const FAR_TO_SINGLE_SUBST: usize = 16;
+
+const TAG: usize = 17;
 
 // What stands in the places that a row does not use.
 const NONE: usize = UINT16;
@@ -139,13 +147,29 @@ const LOOKUP_LIST: Row = [
     NO_RUN,
 ];
 
-const LOOKUP: Row = [
+const LOOKUP_1: Row = [
     // lookupType, lookupFlag, subTableCount
     [ONE, 3, 6, IS_1, UINT16, UINT16, NONE, NONE],
     // subtableOffsets
     [MANY, 1, 2, TO_SINGLE_SUBST, NONE, NONE, NONE, NONE],
     // markFilteringSet
     [IF_MARKED, 1, 2, UINT16, NONE, NONE, NONE, NONE],
+];
+
+const LOOKUP_7: Row = [
+    // lookupType, lookupFlag, subTableCount
+    [ONE, 3, 6, IS_7, UINT16, UINT16, NONE, NONE],
+    // subtableOffsets
+    [MANY, 1, 2, TO_EXTENSION, NONE, NONE, NONE, NONE],
+    // markFilteringSet
+    [IF_MARKED, 1, 2, UINT16, NONE, NONE, NONE, NONE],
+];
+
+const EXTENSION: Row = [
+    // substFormat, extensionLookupType, extensionOffset
+    [ONE, 3, 8, IS_1, IS_1, FAR_TO_SINGLE_SUBST, NONE, NONE],
+    NO_RUN,
+    NO_RUN,
 ];
 
 const SINGLE_SUBST_1: Row = [
@@ -179,7 +203,7 @@ const COVERAGE_2: Row = [
     NO_RUN,
 ];
 
-// The row of a table of this kind; `first` is the first number in it, which is the format where there are two.
+// The row of a table of this kind; `first` is the first number in it, which is the format or the lookup type where there are two.
 pub fn row_of(kind: Kind, first: usize) -> Row
     ensures { λ r. ⌜ RowOf kind first r ⌝ }
 {
@@ -191,7 +215,8 @@ pub fn row_of(kind: Kind, first: usize) -> Row
         Kind::FeatureList => FEATURE_LIST,
         Kind::Feature => FEATURE,
         Kind::LookupList => LOOKUP_LIST,
-        Kind::Lookup => LOOKUP,
+        Kind::Lookup => if first == 1 { LOOKUP_1 } else { LOOKUP_7 },
+        Kind::Extension => EXTENSION,
         Kind::SingleSubst => if first == 1 {
             SINGLE_SUBST_1
         } else {
@@ -209,6 +234,7 @@ fn rule_of(field: usize) -> Rule
         IS_0 => Rule::Only(0),
         IS_1 => Rule::Only(1),
         IS_2 => Rule::Only(2),
+        IS_7 => Rule::Only(7),
         TO_SCRIPT_LIST => Rule::To(Kind::ScriptList),
         TO_SCRIPT => Rule::To(Kind::Script),
         TO_LANG_SYS => Rule::To(Kind::LangSys),
@@ -217,24 +243,30 @@ fn rule_of(field: usize) -> Rule
         TO_FEATURE => Rule::To(Kind::Feature),
         TO_LOOKUP_LIST => Rule::To(Kind::LookupList),
         TO_LOOKUP => Rule::To(Kind::Lookup),
+        TO_EXTENSION => Rule::To(Kind::Extension),
         TO_SINGLE_SUBST => Rule::To(Kind::SingleSubst),
         TO_COVERAGE => Rule::To(Kind::Coverage),
+        FAR_TO_SINGLE_SUBST => Rule::To(Kind::SingleSubst),
         _ => Rule::Any,
     }
+}
+
+// Its bytes.
+fn width_of(field: usize) -> usize
+    ensures { λ r. ⌜ (r ≡ fieldOf field .width) × (2 ≤ r) × (r ≤ mostWidth) ⌝ }
+{
+    if field < FAR_TO_SINGLE_SUBST {
+        return 2;
+    }
+    4
 }
 
 // The field that a number of a run stands for.
 pub fn field_of(field: usize) -> Field
     ensures { λ r. ⌜ (r ≡ fieldOf field) × Narrow r ⌝ }
 {
-    if field == TAG {
-        return Field {
-            width: 4,
-            rule: Rule::Any,
-        };
-    }
     Field {
-        width: 2,
+        width: width_of(field),
         rule: rule_of(field),
     }
 }

@@ -1,23 +1,33 @@
 // The tables that a read is in, and its next move.
 use crate::fields::Next;
-use crate::fields::next_field;
+use crate::fields::next_in;
 use crate::judge::judge;
+use crate::judge::lies_in;
+use crate::modes::child_mode;
 use gsub::Act;
 use gsub::Field;
 use gsub::Kind;
+use gsub::Mode;
+use gsub::NEW;
 ghost use mathlib.Core.Path.{_≡_};
 ghost use mathlib.Core.Bool.{true, false};
-ghost use Prim.Native.Nat.{_+_, _-_, _<_, _≤_};
+ghost use Prim.Native.Nat.{ℕ, _+_, _-_, _<_, _≤_};
 ghost use lib.ListN.{getD};
+ghost use mathlib.Core.List.{List};
+ghost use Rattle.gsub.specs.declared.Mode.the-variants.{Promoted, New};
 ghost use Rattle.gsub.specs.Meaning.{deepest};
-ghost use Rattle.gsub_walk.specs.Fields.{mostWidth};
-ghost use Rattle.gsub_walk.specs.Rest.{Standing, FrameOk, noFrame, advanced, entered, linked, left, Moves, NextIs, begunAt};
+ghost use Rattle.gsub_walk.specs.Fields.{mostWidth, Narrow};
+ghost use Rattle.gsub_walk.specs.Rest.{Standing, FrameOk, noFrame, advanced, entered, linked, left, Moves, NextIs, AsIs, begunAt};
 
-// Header, LookupList, Lookup, SingleSubst, Coverage: none lies deeper.
-const DEEPEST: usize = 5;
+// Header, LookupList, Lookup, Extension, SingleSubst, Coverage: none lies deeper.
+const DEEPEST: usize = 6;
 
-// A table: its kind and place, the number of its next field, where that lies in it, and the width of the field before.
+// Where NEW has the lookupType of a promoted Lookup.
+const TYPE: usize = 8;
+
+// A table: how it is read, its kind and place, the number of its next field, where that lies in it, and the width of the field before.
 pub struct Frame {
+    pub mode: Mode,
     pub kind: Kind,
     pub place: usize,
     pub index: usize,
@@ -32,10 +42,11 @@ pub struct Walk {
     pub frames: [Frame; DEEPEST],
 }
 
-// A session call, refusal 15 with its place, or the walk's end.
+// A session call, of a put the bytes' place in the table or in NEW; refusal 15 with its place; or the walk's end.
 pub enum Move {
     Begin,
     Put(usize, usize),
+    New(usize, usize),
     Link(usize),
     End,
     Stop(usize),
@@ -48,13 +59,14 @@ pub struct Moved {
 }
 
 // The walk of one table, which is open.
-pub fn begun(kind: Kind, place: usize) -> Walk
-    ensures { λ r. ⌜ r ≡ begunAt kind place ⌝ }
+pub fn begun(mode: Mode, kind: Kind, place: usize) -> Walk
+    ensures { λ r. ⌜ r ≡ begunAt mode kind place ⌝ }
 {
     Walk {
         depth: 1,
         back: false,
         frames: [Frame {
+            mode: mode,
             kind: kind,
             place: place,
             index: 0,
@@ -80,8 +92,10 @@ fn advance(w: Walk, f: Frame, width: usize) -> Walk
 {
     let mut n = w;
     let d = w.depth - 1;
+    let mode = f.mode;
     let kind = f.kind;
     n.frames[d] = Frame {
+        mode: mode,
         kind: kind,
         place: f.place,
         index: f.index + 1,
@@ -93,13 +107,14 @@ fn advance(w: Walk, f: Frame, width: usize) -> Walk
 }
 
 // A child's table begun.
-fn enter(w: Walk, kind: Kind, place: usize) -> Walk
+fn enter(w: Walk, mode: Mode, kind: Kind, place: usize) -> Walk
     requires { ⌜ Standing w × (w .depth < deepest) ⌝ }
-    ensures { λ r. ⌜ r ≡ entered w kind place ⌝ }
+    ensures { λ r. ⌜ r ≡ entered w mode kind place ⌝ }
 {
     let mut n = w;
     let d = w.depth;
     n.frames[d] = Frame {
+        mode: mode,
         kind: kind,
         place: place,
         index: 0,
@@ -131,9 +146,9 @@ fn leave(w: Walk) -> Walk
     n
 }
 
-// The next move where g is the next field of f, the innermost table.
+// The next move where g is the next field of f, the innermost table, and stands in the table itself.
 fn step_field(table: &[u8], w: Walk, f: Frame, g: Field) -> Moved
-    requires { ⌜ NextIs (now table) w f g ⌝ }
+    requires { ⌜ NextIs (now table) w f g × AsIs (now table) f g ⌝ }
     ensures { λ r. ⌜ Moves (now (table .entry)) w r ⌝ }
 {
     let width = g.width;
@@ -157,11 +172,82 @@ fn step_field(table: &[u8], w: Walk, f: Frame, g: Field) -> Moved
                     walk: w,
                 };
             }
+            let parent = f.mode;
+            let mode = child_mode(table, parent, place, f.at, kind, child);
             Moved {
                 made: Move::Begin,
-                walk: enter(advance(w, f, width), kind, child),
+                walk: enter(advance(w, f, width), mode, kind, child),
             }
         }
+    }
+}
+
+// Where f is a promoted Lookup, and g its lookupType.
+fn step_type(table: &[u8], w: Walk, f: Frame, g: Field) -> Moved
+    requires { ⌜ NextIs (now table) w f g × (f .mode ≡ Promoted) × (f .index ≡ 0) ⌝ }
+    ensures { λ r. ⌜ Moves (now (table .entry)) w r ⌝ }
+{
+    let place = f.place;
+    let width = g.width;
+    if lies_in(table, place, width) {
+        return Moved {
+            made: Move::New(TYPE, width),
+            walk: advance(w, f, width),
+        };
+    }
+    Moved {
+        made: Move::Stop(place),
+        walk: w,
+    }
+}
+
+// Where f is a new Extension, whatever the table is.
+fn step_new(w: Walk, f: Frame, g: Field) -> Moved
+    requires { ⌜ Standing w × (0 < w .depth) × FrameOk f × Narrow g × (f .mode ≡ New) ⌝ }
+    ensures { λ r. ⌜ ((b : List ℕ) → NextIs b w f g → Moves b w r) ⌝ }
+{
+    let width = g.width;
+    let at = f.at;
+    let act = judge(&NEW, at, g);
+    match act {
+        Act::Keep => Moved {
+            made: Move::New(at, width),
+            walk: advance(w, f, width),
+        },
+        Act::Refuse => Moved {
+            made: Move::Stop(f.at),
+            walk: w,
+        },
+        Act::Follow(kind) => {
+            if DEEPEST <= w.depth {
+                return Moved {
+                    made: Move::Stop(f.place),
+                    walk: w,
+                };
+            }
+            Moved {
+                made: Move::Begin,
+                walk: enter(advance(w, f, width), Mode::Plain, kind, f.place),
+            }
+        }
+    }
+}
+
+// By how f is read.
+fn step_in(table: &[u8], w: Walk, f: Frame, g: Field) -> Moved
+    requires { ⌜ NextIs (now table) w f g ⌝ }
+    ensures { λ r. ⌜ Moves (now (table .entry)) w r ⌝ }
+{
+    let mode = f.mode;
+    match mode {
+        Mode::Plain => step_field(table, w, f, g),
+        Mode::Last(_) => step_field(table, w, f, g),
+        Mode::Promoted => if f.index == 0 {
+            step_type(table, w, f, g)
+        } else {
+            step_field(table, w, f, g)
+        },
+        Mode::New => step_new(w, f, g),
     }
 }
 
@@ -183,13 +269,14 @@ pub fn step(table: &[u8], w: Walk) -> Moved
             walk: link_made(w),
         };
     }
+    let mode = f.mode;
     let kind = f.kind;
-    let n = next_field(table, kind, f.place, f.index);
+    let n = next_in(table, mode, kind, f.place, f.index);
     let Next::Some(g) = n else {
         return Moved {
             made: Move::End,
             walk: leave(w),
         };
     };
-    step_field(table, w, f, g)
+    step_in(table, w, f, g)
 }

@@ -1,14 +1,14 @@
-// A GSUB table of standard input, read into a session in memory of fixed lengths and packed without copies; and refusals, as text.
+// A GSUB table of standard input, packed with as many of its last lookups promoted as that needs, in memory of fixed lengths; and what came of it, as text.
 //
 // No function asks anything of its caller. What can't be written is lost, and nothing is told of it.
-use answer::ObjectId;
-use answer::Packing;
-use answer::Tally;
 use answer::number_of;
-use gsub_read::ReadAnswer;
-use gsub_read::read_gsub;
+use gsub_promote::PromoteAnswer;
+use gsub_promote::promote_gsub;
 use layout::words::LINKS_AT;
 use model_orders::LINK_WORDS;
+
+// How long a table may be, and its packed one: some lookups have to be promoted only where a table is longer than an offset of two bytes can count.
+pub const LONGEST: usize = 1 << 18;
 
 // The session's limits.
 const OBJECTS: usize = 2048;
@@ -20,44 +20,26 @@ const RECORDS: usize = LINKS_AT + OBJECTS * 2 + LINKS * LINK_WORDS;
 // Eleven words for each object, two for each link.
 const WORK: usize = OBJECTS * 11 + LINKS * 2;
 
-// The packed table's length, and what the session held; refusal 15 with its place; another refusal's number.
-pub enum Repacked {
-    Done(usize, Tally),
-    BadTable(usize),
-    Refused(u64),
-}
-
 // Whether standard input has a byte more.
 pub fn goes_on() -> bool {
     let mut one: [u8; 1] = [0; 1];
     0 < io::read_full(0, &mut one)
 }
 
-fn pack(store: &[u8], records: &[u32], root: ObjectId, held: Tally, out: &mut [u8]) -> Repacked {
-    let mut work: [u64; WORK] = [0; WORK];
-    let told = pack::pack(store, records, root, 0, out, &mut work);
-    match told {
-        Packing::Done(made, _) => Repacked::Done(made.length, held),
-        Packing::Refused(why, _) => Repacked::Refused(number_of(why)),
-    }
-}
-
-// Reads the table in a session of its own, and packs it into `out`.
-pub fn repack(table: &[u8], out: &mut [u8]) -> Repacked {
-    let mut store = io::large_buffer();
+// Packs the table into `out`, in a session of its own.
+pub fn repack(table: &[u8], out: &mut [u8]) -> PromoteAnswer {
+    let mut store: [u8; LONGEST] = [0; LONGEST];
     let mut records: [u32; RECORDS] = [0; RECORDS];
-    let told = read_gsub(
+    let mut work: [u64; WORK] = [0; WORK];
+    promote_gsub(
         &mut store,
         &mut records,
         OBJECTS as u32,
         LINKS as u32,
         table,
-    );
-    match told {
-        ReadAnswer::Done(root, held) => pack(&store, &records, root, held, out),
-        ReadAnswer::BadTable(place) => Repacked::BadTable(place),
-        ReadAnswer::Refused(why) => Repacked::Refused(number_of(why)),
-    }
+        out,
+        &mut work,
+    )
 }
 
 fn line(fd: i32, name: &[u8], n: u64) {
@@ -67,15 +49,25 @@ fn line(fd: i32, name: &[u8], n: u64) {
 }
 
 // A refusal; nothing of a table that was packed.
-pub fn tell(fd: i32, r: Repacked) {
-    match r {
-        Repacked::Done(_, _) => {}
-        Repacked::BadTable(place) => line(fd, b"refused 15 at ", place as u64),
-        Repacked::Refused(n) => line(fd, b"refused ", n),
+pub fn tell(fd: i32, a: PromoteAnswer) {
+    match a {
+        PromoteAnswer::Done(_, _, _, _) => {}
+        PromoteAnswer::BadTable(place) => line(fd, b"refused 15 at ", place as u64),
+        PromoteAnswer::Refused(why) => line(fd, b"refused ", number_of(why)),
     }
+}
+
+// How many lookups are promoted; nothing where none is.
+pub fn tell_promoted(fd: i32, lookups: usize) {
+    if lookups == 0 {
+        return;
+    }
+    io::write_all(fd, b"promoted: ");
+    io::print_decimal(fd, lookups as u64);
+    io::write_all(fd, b" lookups\n");
 }
 
 // Standard input is no table of this length.
 pub fn tell_too_long(fd: i32) {
-    io::write_all(fd, b"longer than 65,536 bytes\n");
+    io::write_all(fd, b"longer than 262,144 bytes\n");
 }

@@ -4,7 +4,7 @@ use Prim.Native.Nat.{_-_, _≤_}
 use native.Mathlib.Omega.{arith}
 use borrow.Author.Needs.{needs}
 use denote.Ref.{now}
-use Rattle.gsub.specs.Substitute.{bySubtables, wordFrom, childFrom}
+use Rattle.gsub.specs.Substitute.{bySubtables, wordFrom, childFrom, farFrom}
 use Rattle.gsub_substitute.specs.Found.{indexOf}
 use Rattle.gsub_substitute.proofs.Scans.{subtables-end, subtables-next}
 use Rattle.gsub_substitute.proofs.by_subtables.Statement.{statement}
@@ -13,7 +13,7 @@ use Rattle.gsub_substitute.proofs.by_subtables.Tie as tie
 abbrev Inv-loop : tie.InvT-loop
 Inv-loop table lookup glyph count i₀ i =
     (i ≤ count)
-    × (bySubtables (wordFrom table) (childFrom table) lookup glyph 0 (wordFrom table lookup 4) ≡ bySubtables (wordFrom table) (childFrom table) lookup glyph i (count - i))
+    × (bySubtables (wordFrom table) (childFrom table) (farFrom table) lookup glyph 0 (wordFrom table lookup 4) ≡ bySubtables (wordFrom table) (childFrom table) (farFrom table) lookup glyph i (count - i))
 
 abbrev μ-loop : tie.MeasureT-loop
 μ-loop table lookup glyph count i₀ i = count - i
@@ -29,17 +29,11 @@ loop-holds c =
     let n : c .word-at .result - 0 ≡ wordFrom (now (c .before .before .args .table)) (c .before .before .args .lookup) 4 = omega arith in
     (omega arith, rw n)
 
-mul-child : tie.Need-mul-child Inv-loop μ-loop
-mul-child c = search needs
-
-add-child : tie.Need-add-child Inv-loop μ-loop
-add-child c = search needs
+subtable-of-requires : tie.Need-subtable-of-requires Inv-loop μ-loop
+subtable-of-requires c κs = search needs
 
 child-requires : tie.Need-child-requires Inv-loop μ-loop
 child-requires c κs = search needs
-
-child-requires-2 : tie.Need-child-requires-2 Inv-loop μ-loop
-child-requires-2 c κs = search needs
 
 coverage-index-requires : tie.Need-coverage-index-requires Inv-loop μ-loop
 coverage-index-requires c κs = search needs
@@ -56,7 +50,7 @@ returns c =
     let turn = found .before .before .before in (
       sym
           (turn .before .loop .inv .1
-          ∙ subtables-next _ _ _ _ _ _ (turn .loop-test .taken) (found .before .before .child .ensures .0) (found .before .child2 .ensures .0)
+          ∙ subtables-next _ _ _ _ _ _ (turn .loop-test .taken) _ (found .before .before .subtable-of .ensures .0) (found .before .child .ensures .0)
           (sym (found .coverage-index .ensures) ∙ ap indexOf (c .before .before .found .given .1))
           ∙ sym (c .single .ensures .0)),
       omega arith,
@@ -77,12 +71,12 @@ loop-again c =
     let turn = found .before .before .before in (
       omega arith,
       turn .before .loop .inv .1
-          ∙ subtables-next _ _ _ _ _ _ (turn .loop-test .taken) (found .before .before .child .ensures .0) (found .before .child2 .ensures .0)
+          ∙ subtables-next _ _ _ _ _ _ (turn .loop-test .taken) _ (found .before .before .subtable-of .ensures .0) (found .before .child .ensures .0)
           (sym (found .coverage-index .ensures) ∙ ap indexOf (c .enum-told .given .1)),
     )
 
 returns-2 : tie.Need-returns-2 Inv-loop μ-loop
-returns-2 c = (sym (c .before .loop .inv .1 ∙ subtables-end _ _ _ _ _ _ (c .loop-test .left)), omega arith)
+returns-2 c = (sym (c .before .loop .inv .1 ∙ subtables-end _ _ _ _ _ _ (c .loop-test .left) _), omega arith)
 
 pub by-subtables-spec : {M : Type 1} → statement M
 by-subtables-spec =
@@ -93,10 +87,8 @@ by-subtables-spec =
     add-word-at
     word-at-requires
     loop-holds
-    mul-child
-    add-child
+    subtable-of-requires
     child-requires
-    child-requires-2
     coverage-index-requires
     enum-known-found
     single-requires

@@ -3,6 +3,8 @@ use native.Mathlib.Omega.{arith}
 use borrow.Author.Needs.{needs}
 use lib.ListN.{length}
 use Rattle.gsub.specs.declared.Kind.the-variants.{Header}
+use Rattle.gsub.specs.declared.Mode.the-variants.{Plain}
+use Rattle.gsub_walk.specs.Fields.{Fits}
 use Rattle.gsub_walk.proofs.Moving.{begun-stands}
 use Rattle.gsub_walk.specs.Rest.{restOf, Standing}
 use Rattle.gsub_show.proofs.Walks.{walked}
@@ -19,7 +21,8 @@ begun-requires : tie.Need-begun-requires Inv-loop μ-loop
 begun-requires c κs = search needs
 
 loop-holds : tie.Need-loop-holds Inv-loop μ-loop
-loop-holds c = rw (c .begun .ensures) (begun-stands Header 0 (omega arith))
+unfolding Fits
+loop-holds c = rw (c .begun .ensures) (begun-stands Plain Header 0 tt (omega arith))
 
 step-requires : tie.Need-step-requires Inv-loop μ-loop
 step-requires c κs = search needs

@@ -19,6 +19,12 @@ enum-known-m-2 c = search needs
 put-requires-2 : tie.Need-put-requires-2
 put-requires-2 c κs = search needs
 
+enum-known-m-3 : tie.Need-enum-known-m-3
+enum-known-m-3 c = search needs
+
+put-requires-3 : tie.Need-put-requires-3
+put-requires-3 c κs = search needs
+
 enum-told-2 : tie.Need-enum-told-2
 enum-told-2 c = search needs
 
@@ -45,15 +51,19 @@ returns-3 c = rw (c .before .before .m2 .given .1) tt
 
 returns-4 : tie.Need-returns-4
 unfolding GoesOn
-returns-4 c = rw (c .before .enum-told2 .given .1) tt
+returns-4 c = rw (c .before .before .m3 .given .1) tt
 
 returns-5 : tie.Need-returns-5
 unfolding GoesOn
-returns-5 c = tt
+returns-5 c = rw (c .before .enum-told2 .given .1) tt
 
 returns-6 : tie.Need-returns-6
 unfolding GoesOn
 returns-6 c = tt
+
+returns-7 : tie.Need-returns-7
+unfolding GoesOn
+returns-7 c = tt
 
 pub with-move-spec : {M : Type 1} → statement M
 with-move-spec =
@@ -64,6 +74,8 @@ with-move-spec =
     put-requires
     enum-known-m-2
     put-requires-2
+    enum-known-m-3
+    put-requires-3
     enum-told-2
     closed-requires
     enum-told-3
@@ -73,4 +85,5 @@ with-move-spec =
     returns-3
     returns-4
     returns-5
-    returns-6)
+    returns-6
+    returns-7)

@@ -38,6 +38,9 @@ enum-told-9 c = search needs
 enum-told-10 : tie.Need-enum-told-10
 enum-told-10 c = search needs
 
+enum-told-11 : tie.Need-enum-told-11
+enum-told-11 c = search needs
+
 returns : tie.Need-returns
 unfolding shape shapeOf runOf allTimes allFields rightRuns rightRun size
 returns c = row-of (c .enum-told .given .1) (λ second. refl) refl refl
@@ -68,19 +71,19 @@ returns-7 c = row-of (c .enum-told7 .given .1) (λ second. refl) refl refl
 
 returns-8 : tie.Need-returns-8
 unfolding shape shapeOf runOf allTimes allFields rightRuns rightRun size
-returns-8 c = row-of (c .enum-told8 .given .1) (λ second. refl) refl refl
+returns-8 c =
+    let told = c .before in
+    row-of (told .enum-told8 .given .1) (λ second. rw (eq-eqb (told .before .before .args .first) 1 (c .if1 .taken))) refl refl
 
 returns-9 : tie.Need-returns-9
 unfolding shape shapeOf runOf allTimes allFields rightRuns rightRun size
 returns-9 c =
     let told = c .before in
-    row-of (told .enum-told9 .given .1) (λ second. rw (eq-eqb (told .before .before .args .first) 1 (c .if1 .taken))) refl refl
+    row-of (told .enum-told8 .given .1) (λ second. rw (ne-eqb (told .before .before .args .first) 1 (c .if1 .left))) refl refl
 
 returns-10 : tie.Need-returns-10
 unfolding shape shapeOf runOf allTimes allFields rightRuns rightRun size
-returns-10 c =
-    let told = c .before in
-    row-of (told .enum-told9 .given .1) (λ second. rw (ne-eqb (told .before .before .args .first) 1 (c .if1 .left))) refl refl
+returns-10 c = row-of (c .enum-told9 .given .1) (λ second. refl) refl refl
 
 returns-11 : tie.Need-returns-11
 unfolding shape shapeOf runOf allTimes allFields rightRuns rightRun size
@@ -93,6 +96,18 @@ unfolding shape shapeOf runOf allTimes allFields rightRuns rightRun size
 returns-12 c =
     let told = c .before in
     row-of (told .enum-told10 .given .1) (λ second. rw (ne-eqb (told .before .before .args .first) 1 (c .if2 .left))) refl refl
+
+returns-13 : tie.Need-returns-13
+unfolding shape shapeOf runOf allTimes allFields rightRuns rightRun size
+returns-13 c =
+    let told = c .before in
+    row-of (told .enum-told11 .given .1) (λ second. rw (eq-eqb (told .before .before .args .first) 1 (c .if3 .taken))) refl refl
+
+returns-14 : tie.Need-returns-14
+unfolding shape shapeOf runOf allTimes allFields rightRuns rightRun size
+returns-14 c =
+    let told = c .before in
+    row-of (told .enum-told11 .given .1) (λ second. rw (ne-eqb (told .before .before .args .first) 1 (c .if3 .left))) refl refl
 
 pub row-of-spec : {M : Type 1} → statement M
 row-of-spec =
@@ -108,6 +123,7 @@ row-of-spec =
     enum-told-8
     enum-told-9
     enum-told-10
+    enum-told-11
     returns
     returns-2
     returns-3
@@ -119,4 +135,6 @@ row-of-spec =
     returns-9
     returns-10
     returns-11
-    returns-12)
+    returns-12
+    returns-13
+    returns-14)

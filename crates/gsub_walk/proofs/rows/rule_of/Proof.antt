@@ -57,7 +57,19 @@ unfolding allFields
 returns-13 c = rw (c .match .keys13)
 
 returns-14 : tie.Need-returns-14
-returns-14 c = other-rule _ (c .match .rest)
+unfolding allFields
+returns-14 c = rw (c .match .keys14)
+
+returns-15 : tie.Need-returns-15
+unfolding allFields
+returns-15 c = rw (c .match .keys15)
+
+returns-16 : tie.Need-returns-16
+unfolding allFields
+returns-16 c = rw (c .match .keys16)
+
+returns-17 : tie.Need-returns-17
+returns-17 c = other-rule _ (c .match .rest)
 
 pub rule-of-spec : {M : Type 1} → statement M
 rule-of-spec =
@@ -76,4 +88,7 @@ rule-of-spec =
     returns-11
     returns-12
     returns-13
-    returns-14)
+    returns-14
+    returns-15
+    returns-16
+    returns-17)

@@ -1,4 +1,4 @@
--- A law for each move; the next field's are step_field's.
+-- A law for each move; the next field's are step_in's.
 use native.Mathlib.Omega.{arith}
 use denote.Ref.{now}
 use borrow.Author.Needs.{needs}
@@ -25,12 +25,13 @@ returns-2 c =
     let a = inside .before .before .before in
     link-made (now (a .args .table)) (a .pre) (omega (arith, inside .if1 .left)) (frame .innermost .ensures) (back .if2 .taken) (c .link-made .ensures)
 
-next-field-requires : tie.Need-next-field-requires
-next-field-requires c κs =
+next-in-requires : tie.Need-next-in-requires
+next-in-requires c κs =
     let frame = c .before in
     let inside = frame .before in
     let a = inside .before .before .before in
-    omega (arith, innermost-ok (now (a .args .table)) (a .pre) (omega (arith, inside .if1 .left)) (frame .innermost .ensures) .near)
+    let ok = innermost-ok (now (a .args .table)) (a .pre) (omega (arith, inside .if1 .left)) (frame .innermost .ensures) in
+    (ok .begins, ok .fits)
 
 enum-known-n : tie.Need-enum-known-n
 enum-known-n c = search needs
@@ -49,17 +50,17 @@ returns-3 c =
     let frame = forth .before in
     let inside = frame .before in
     let a = inside .before .before .before in
-    end-made (now (a .args .table)) (a .pre) (omega (arith, inside .if1 .left)) (frame .innermost .ensures) (forth .if2 .left) (found .next-field .ensures) (told .enum-told .given .1) (c .leave .ensures)
+    end-made (now (a .args .table)) (a .pre) (omega (arith, inside .if1 .left)) (frame .innermost .ensures) (forth .if2 .left) (found .next-in .ensures) (told .enum-told .given .1) (c .leave .ensures)
 
-step-field-requires : tie.Need-step-field-requires
-step-field-requires c κs =
+step-in-requires : tie.Need-step-in-requires
+step-in-requires c κs =
     let told = c .before in
     let found = told .before .before in
     let forth = found .before in
     let frame = forth .before in
     let inside = frame .before in
     let a = inside .before .before .before in
-    next-is (now (a .args .table)) (a .pre) (omega (arith, inside .if1 .left)) (frame .innermost .ensures) (forth .if2 .left) (found .next-field .ensures) (told .n .given .1)
+    next-is (now (a .args .table)) (a .pre) (omega (arith, inside .if1 .left)) (frame .innermost .ensures) (forth .if2 .left) (found .next-in .ensures) (told .n .given .1)
 
 returns-4 : tie.Need-returns-4
 returns-4 c = search needs
@@ -72,10 +73,10 @@ step-spec =
     innermost-requires
     link-made-requires
     returns-2
-    next-field-requires
+    next-in-requires
     enum-known-n
     enum-told
     leave-requires
     returns-3
-    step-field-requires
+    step-in-requires
     returns-4)

@@ -1,0 +1,55 @@
+// How a child is read, by how its parent is.
+use crate::fields::less;
+use gsub::Kind;
+use gsub::Mode;
+use gsub::word_at;
+ghost use mathlib.Core.Path.{_≡_};
+ghost use mathlib.Core.Bool.{_&&_};
+ghost use Prim.Native.Nat.{_≤_};
+ghost use lib.Dec.{eqb};
+ghost use Rattle.lists.specs.Lists.{pick};
+ghost use Rattle.gsub.specs.Tables.{wordAt};
+ghost use Rattle.gsub.specs.Promote.{isLast, childMode};
+ghost use Rattle.gsub.specs.declared.Mode.the-variants.{Plain, Promoted};
+ghost use Rattle.gsub_walk.specs.Fields.{farthest};
+
+// The type of a lookup that is promoted.
+const SINGLE: usize = 1;
+
+// A Lookup of the list at `place`, whose offset stands at `at`.
+fn in_list(table: &[u8], last: usize, place: usize, at: usize, lookup: usize) -> Mode
+    requires { ⌜ (place ≤ farthest) × (lookup ≤ farthest) ⌝ }
+    ensures { λ r. ⌜ r ≡ pick (isLast last (now (table .entry)) place at && eqb (wordAt (now (table .entry)) lookup) 1) Promoted Plain ⌝ }
+{
+    if at < 2 + 2 * less(word_at(table, place), last) {
+        return Mode::Plain;
+    }
+    if word_at(table, lookup) == SINGLE {
+        return Mode::Promoted;
+    }
+    Mode::Plain
+}
+
+// A child of this kind of a table in a mode.
+pub fn child_mode(
+    table: &[u8],
+    mode: Mode,
+    place: usize,
+    at: usize,
+    kind: Kind,
+    child: usize,
+) -> Mode
+    requires { ⌜ (place ≤ farthest) × (child ≤ farthest) ⌝ }
+    ensures { λ r. ⌜ r ≡ childMode (now (table .entry)) mode place at kind child ⌝ }
+{
+    match mode {
+        Mode::Plain => Mode::Plain,
+        Mode::Last(n) => match kind {
+            Kind::LookupList => mode,
+            Kind::Lookup => in_list(table, n, place, at, child),
+            _ => Mode::Plain,
+        },
+        Mode::Promoted => Mode::New,
+        Mode::New => Mode::Plain,
+    }
+}
