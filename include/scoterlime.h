@@ -13,8 +13,8 @@
  * What the areas hold is no duty: on any contents and in any order, every call ends and answers. A session goes on as long as each call gets both
  * stores as the call before left them, with the same n and an r no shorter than the need. Stores that hold no sound session are told 12.
  *
- * A refused call changes nothing, with three exceptions: pack's 10 and 11 clear the needed part of the work memory, a refused read leaves a session that
- * is freshly started, and of a batch the calls before the one that ends it stand. Where several reasons apply, the first in the call's list of refusals is told.
+ * A refused call changes nothing, with three exceptions: pack's 10 and 11 clear the needed part of the work memory, a refused read or promotion leaves a session
+ * that is freshly started (and a promotion the work memory as its packs left it), and of a batch the calls before the one that ends it stand. Where several reasons apply, the first in the call's list of refusals is told.
  */
 #ifndef SCOTERLIME_H
 #define SCOTERLIME_H
@@ -122,11 +122,40 @@ typedef struct {
 } scoterlime_read_answer;
 
 /* Begins a session, whatever the stores held, and writes the GSUB table of t bytes into it, one object for each of its tables, equal ones once: version 1.0,
- * single substitution alone, feature parameters and lookup orders none. The root can be packed, and other objects can be written beside it.
+ * lookups of type 1 and of type 7 whose Extensions lead to type 1, feature parameters and lookup orders none. The root can be packed, and other objects can be written beside it.
  * A table that offsets lead to several times is read each time: the time is not bounded by t alone (docs/RULES.md, 11.12).
  * Refused: 13 as start, which changes nothing; then the first of 15, 6, 7, 8 and 16 that is met, which leaves the session as freshly started. */
 scoterlime_read_answer scoterlime_read_gsub(uint8_t *store, size_t n, uint32_t *records, size_t r, uint32_t piece_limit, uint32_t link_limit,
                                             const uint8_t *table, size_t t);
+
+/* What a promotion tells. number is 0, or the reason for which it was refused: 6, 7, 8, 10, 11, 13, 15 or 16 as above.
+ * Beside 0 stand the counts, the id, the length and how many lookups are promoted. Each other value is 0, but the place beside 15 and the link beside 11. */
+typedef struct {
+    uint64_t number;
+    uint64_t bytes;
+    uint64_t links;
+    uint64_t objects;
+    uint64_t depth;
+    uint64_t id;       /* the root's: the object of the table's header */
+    uint64_t length;   /* the packed table's length in bytes */
+    uint64_t parent;   /* 11: in the trial with all lookups promoted, the id of the object that has the field (the session holds it no longer), */
+    uint64_t field;    /* the field's place in that object, */
+    uint64_t needed;   /* and the offset that does not fit it */
+    uint64_t place;    /* 15: where in the table the field stands */
+    uint64_t promoted; /* how many of the last lookups are promoted: the fewest that do */
+} scoterlime_promote_answer;
+
+/* Reads the GSUB table of t bytes as scoterlime_read_gsub does, and packs it without copies to the first length bytes at out; the other bytes there stand. Where no order
+ * fits, it begins again with the last lookup promoted, the last two and so on, up to all of them: a promoted lookup is of type 7, with an Extension before each of its
+ * subtables, whose offset of four bytes reaches any place. Lookups of type 7 count among the last ones, and are left as they are. No lookup's substitutes change.
+ * The session then holds the table as it was packed, and has to have room for the Extensions too: at most 8 bytes, an object and a link for each. The work memory is pack's,
+ * for 0 copies; what it held does not matter.
+ * Each trial is a read and a pack of the whole table: the time is up to as many times theirs as there are lookups, and one more.
+ * Refused: 13 as start, which changes nothing; then the first that is met in the first trial, or in a later one, which leaves the session as freshly started and out as it
+ * was: 15, 6, 7, 8 and 16 as a read; 13 (w is short of the need); 10 (out is shorter than the table with the fewest promoted that fits); 11 (none fits, with all promoted
+ * either). The needed words at work are 0 once a pack was told 0, 10 or 11. */
+scoterlime_promote_answer scoterlime_promote_gsub(uint8_t *store, size_t n, uint32_t *records, size_t r, uint32_t piece_limit, uint32_t link_limit,
+                                                  const uint8_t *table, size_t t, uint8_t *out, size_t o, uint64_t *work, size_t w);
 
 /* What a batch tells. number is 0, 12 or 13 as above, or why the batch ended before its last word: 1 to 8 and 16 as above, of the call that was refused, or
  *

@@ -13,6 +13,7 @@ mod largest;
 mod looking;
 mod ordering;
 mod packing;
+mod promoting;
 mod putting;
 mod reading;
 mod sessions;
@@ -33,6 +34,7 @@ fn main() {
         ordering::asked,
         copying::asked,
         reading::asked,
+        promoting::asked,
         framing::asked,
         batching::asked,
     ];
@@ -70,6 +72,7 @@ fn main() {
     ordering::print();
     copying::print();
     reading::print();
+    promoting::print();
     framing::print();
     batching::print();
 }

@@ -4,7 +4,7 @@
 //! slices overlap nothing else that is lent.
 
 use crate::foreign;
-use crate::{Answer, Batched, Fed, GsubRead, Sent};
+use crate::{Answer, Batched, Fed, GsubPromoted, GsubRead, Sent};
 
 /// Words of 32 bits that the record store needs.
 pub fn records_need(piece_limit: u32, link_limit: u32) -> usize {
@@ -81,6 +81,31 @@ pub fn read_gsub(
     let (store, records, table) = (store.as_mut_ptr(), records.as_mut_ptr(), table.as_ptr());
     let (p, l) = (piece_limit, link_limit);
     unsafe { foreign::scoterlime_read_gsub(store, n, records, r, p, l, table, t) }
+}
+
+/// Reads a whole table and packs it, with as few of its last lookups promoted as
+/// an order fits. The work memory is that of a pack without copies.
+pub fn promote_gsub(
+    store: &mut [u8],
+    records: &mut [u32],
+    piece_limit: u32,
+    link_limit: u32,
+    table: &[u8],
+    out: &mut [u8],
+    work: &mut [u64],
+) -> GsubPromoted {
+    let (n, r, t, o, w) = (
+        store.len(),
+        records.len(),
+        table.len(),
+        out.len(),
+        work.len(),
+    );
+    let (store, records, table) = (store.as_mut_ptr(), records.as_mut_ptr(), table.as_ptr());
+    let (p, l, out, work) = (piece_limit, link_limit, out.as_mut_ptr(), work.as_mut_ptr());
+    unsafe {
+        foreign::scoterlime_promote_gsub(store, n, records, r, p, l, table, t, out, o, work, w)
+    }
 }
 
 /// Words of 64 bits that the work memory needs of a batch.

@@ -1,6 +1,6 @@
 //! The declarations of include/scoterlime.h.
 
-use crate::{Answer, Batched, Fed, GsubRead, Sent};
+use crate::{Answer, Batched, Fed, GsubPromoted, GsubRead, Sent};
 
 extern "C" {
     pub fn scoterlime_records_need(piece_limit: u32, link_limit: u32) -> u64;
@@ -56,6 +56,20 @@ extern "C" {
         table: *const u8,
         t: usize,
     ) -> GsubRead;
+    pub fn scoterlime_promote_gsub(
+        store: *mut u8,
+        n: usize,
+        records: *mut u32,
+        r: usize,
+        piece_limit: u32,
+        link_limit: u32,
+        table: *const u8,
+        t: usize,
+        out: *mut u8,
+        o: usize,
+        work: *mut u64,
+        w: usize,
+    ) -> GsubPromoted;
     pub fn scoterlime_batch_need(piece_limit: u32, link_limit: u32) -> u64;
     pub fn scoterlime_batch(
         store: *mut u8,

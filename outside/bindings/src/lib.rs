@@ -1,7 +1,8 @@
 //! The proved packer for Rust.
 //!
 //! [`calls`] has the eight calls on any two lent stores, the read of a whole GSUB
-//! table, many calls in one, and a table sent as frames of text and taken in again.
+//! table, with its lookups promoted where that is needed to pack it, many calls in
+//! one, and a table sent as frames of text and taken in again.
 //! [`Batch`] collects calls. [`Session`] keeps both stores borrowed from its start on, so that
 //! nothing else writes them between calls. What include/scoterlime.h asks of
 //! callers holds by Rust's slices: pointers good for their lengths, never null,
@@ -19,7 +20,7 @@ mod session;
 
 pub use batch::Batch;
 pub use calls::{batch_need, head_need, records_need, work_need};
-pub use session::{NotRead, Packed, Refused, Session, Unfinished};
+pub use session::{NotPromoted, NotRead, Packed, Promoted, Refused, Session, Unfinished};
 
 /// What a call tells: the struct of include/scoterlime.h. Values that a call
 /// does not have are 0.
@@ -54,6 +55,29 @@ pub struct GsubRead {
     pub id: u64,
     /// Where in the table a field is that cannot be read.
     pub place: u64,
+}
+
+/// What a promotion tells: its struct of include/scoterlime.h. Values that it
+/// does not have are 0.
+#[repr(C)]
+#[derive(Clone, Copy, Debug, Default, PartialEq, Eq)]
+pub struct GsubPromoted {
+    pub number: u64,
+    pub bytes: u64,
+    pub links: u64,
+    pub objects: u64,
+    pub depth: u64,
+    /// The root's id.
+    pub id: u64,
+    /// The packed table's length.
+    pub length: u64,
+    pub parent: u64,
+    pub field: u64,
+    pub needed: u64,
+    /// Where in the table a field is that cannot be read.
+    pub place: u64,
+    /// How many of the last lookups are promoted.
+    pub promoted: u64,
 }
 
 /// What a batch tells: its struct of include/scoterlime.h.

@@ -1,6 +1,6 @@
 //! A session that keeps its two stores borrowed.
 
-use crate::{calls, Answer, Batched, GsubRead};
+use crate::{calls, Answer, Batched, GsubPromoted, GsubRead};
 
 /// A refused call: its number, and what stands beside it.
 #[derive(Clone, Copy, Debug, PartialEq, Eq)]
@@ -10,6 +10,11 @@ pub struct Refused(pub Answer);
 #[derive(Clone, Copy, Debug, PartialEq, Eq)]
 pub struct NotRead(pub GsubRead);
 
+/// A refused promotion: its number, and what stands beside it, which is the place
+/// of a field that cannot be read, or the link that does not fit.
+#[derive(Clone, Copy, Debug, PartialEq, Eq)]
+pub struct NotPromoted(pub GsubPromoted);
+
 /// A table, at the front of the output, how many copies were made for it, and
 /// how many objects it has, the copies among them.
 #[derive(Clone, Copy, Debug, PartialEq, Eq)]
@@ -17,6 +22,15 @@ pub struct Packed<'o> {
     pub table: &'o [u8],
     pub copies: u32,
     pub placed: u32,
+}
+
+/// A table, at the front of the output, how many of its last lookups are promoted,
+/// and the root's id.
+#[derive(Clone, Copy, Debug, PartialEq, Eq)]
+pub struct Promoted<'o> {
+    pub table: &'o [u8],
+    pub promoted: u32,
+    pub root: u32,
 }
 
 /// A batch that ended before its last word: the number and what stands beside it,
@@ -65,6 +79,31 @@ impl<'a> Session<'a> {
             0 => Ok((Session { store, records }, told.id as u32)),
             _ => Err(NotRead(told)),
         }
+    }
+
+    /// Begins a session that holds a whole GSUB table, and packs it, with as few of
+    /// its last lookups promoted as an order fits.
+    pub fn promote_gsub<'o>(
+        store: &'a mut [u8],
+        records: &'a mut [u32],
+        (piece_limit, link_limit): (u32, u32),
+        table: &[u8],
+        out: &'o mut [u8],
+        work: &mut [u64],
+    ) -> Result<(Session<'a>, Promoted<'o>), NotPromoted> {
+        let (p, l) = (piece_limit, link_limit);
+        let told = calls::promote_gsub(store, records, p, l, table, out, work);
+        if told.number != 0 {
+            return Err(NotPromoted(told));
+        }
+        let promoted = Promoted {
+            table: &out[..told.length as usize],
+            // No more than 65,535.
+            promoted: told.promoted as u32,
+            // An id is below 16,384.
+            root: told.id as u32,
+        };
+        Ok((Session { store, records }, promoted))
     }
 
     pub fn open(&mut self) -> Result<Answer, Refused> {

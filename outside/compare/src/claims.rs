@@ -5,7 +5,7 @@ use crate::met::Met;
 use crate::pair::Outcome;
 use reference::answer::{DONE, OUT_OF_RANGE, UNREADABLE};
 use reference::call::Call;
-use reference::gsub::{reading, GsubRead};
+use reference::gsub::{reading, GsubPromoted, GsubRead};
 use reference::history::History;
 use reference::limits;
 use reference::lines::script;
@@ -88,6 +88,47 @@ impl Claims {
             let length = self.history.table_length(told.id as u32);
             assert_eq!(length, Some(told.bytes), "all that is held is the table's");
         }
+    }
+
+    /// What a promotion told, and the packed table. It stands as the read of the
+    /// trial that is taken, or as a start: the root reads as the table does with so
+    /// many lookups promoted, and so does the packed table, which shows it.
+    pub fn check_promotion(
+        &mut self,
+        limits: (u32, u32),
+        table: &[u8],
+        told: &GsubPromoted,
+        packed: &[u8],
+    ) {
+        if told.number != OUT_OF_RANGE {
+            self.limits = limits;
+        }
+        let whole = reading::reading(table);
+        assert!(told.number != UNREADABLE || whole.is_none());
+        if told.number != DONE {
+            let (pieces, links) = limits;
+            self.history
+                .start(pieces, links, self.lengths.0, self.lengths.1);
+            return;
+        }
+        let last = told.promoted as u16;
+        let read = self.history.read_last(limits, self.lengths, table, last);
+        let expected = GsubPromoted {
+            bytes: read.bytes,
+            links: read.links,
+            objects: read.objects,
+            id: read.id,
+            length: read.bytes,
+            promoted: last.into(),
+            ..GsubPromoted::default()
+        };
+        assert_eq!((read.number, *told), (DONE, expected));
+        let root = self.history.reading(read.id as u32).expect("closed");
+        let promoted = reading::promoted(&whole.expect("it is read"), last.into());
+        assert!(same(root, &promoted));
+        let packed_reading = reading::reading(packed).expect("packed");
+        assert!(same(root, &packed_reading));
+        assert!(reader::shows(packed, root));
     }
 
     fn check_pack(&mut self, id: u32, copies: u32, outcome: &Outcome) {

@@ -7,8 +7,9 @@
 //!   hold one, [`tamper`] damaged stores.
 //! * [`writing`] has many lists of calls that write one graph, [`written`] the sessions that they
 //!   leave, [`by_id`] orders that differ between these.
-//! * [`tables`] and [`crafted`] make GSUB tables of [`parts`], [`real`] has those of fonts, [`spoilt`]
-//!   damages them, [`reads`] reads them.
+//! * [`tables`] and [`crafted`] make GSUB tables of [`parts`], [`nested`] those that fit no order
+//!   before lookups are promoted, [`real`] has those of fonts, [`spoilt`] damages them, [`reads`] reads
+//!   them, [`promotions`] has their lookups promoted.
 //! * [`batches`] has calls as words, [`no_call`] words that are none.
 //! * [`jobs`] has jobs as texts, [`program`] the proved program that runs them, [`frames`] texts of
 //!   frames.
@@ -27,10 +28,12 @@ pub mod largest;
 pub mod lists;
 pub mod made;
 pub mod met;
+pub mod nested;
 pub mod no_call;
 pub mod pair;
 pub mod parts;
 pub mod program;
+pub mod promotions;
 pub mod proved;
 pub mod reads;
 pub mod real;

@@ -9,9 +9,6 @@ use reference::lines::{hex, script};
 use reference::random::Numbers;
 use reference::Answer;
 
-/// Of a table that is not read alike so many bytes are printed.
-const SHOWN: usize = 400;
-
 /// How often each number was told.
 pub type Counts = [usize; NUMBERS];
 
@@ -20,7 +17,7 @@ pub struct Pair {
     pub reference: Stores,
     pub told: Counts,
     /// The stores before the call, kept to spare memory.
-    before: Stores,
+    pub(crate) before: Stores,
 }
 
 /// What a call told, and a pack's memory before and after it.
@@ -64,15 +61,11 @@ impl Pair {
 
     /// Reads a table on both.
     pub fn read_gsub(&mut self, pieces: u32, links: u32, table: &[u8]) -> GsubRead {
-        self.before.bytes.clone_from(&self.reference.bytes);
-        self.before.records.clone_from(&self.reference.records);
+        self.keep();
         let expected = gsub::read_gsub(&mut self.reference, pieces, links, table);
         let lent = Fenced::new(table, 0x5f);
         let told = self.proved.read_gsub(pieces, links, lent.inside());
-        let line = || {
-            let shown = hex(&table[..table.len().min(SHOWN)]);
-            format!("limits {pieces} {links}, {} bytes {shown}", table.len())
-        };
+        let line = || shown((pieces, links), table);
         assert_eq!(told, expected, "{}", line());
         assert!(self.proved.same(&self.reference), "stores: {}", line());
         let fences = self.proved.fences_stand() && lent.stands() && lent.inside() == table;
@@ -87,9 +80,14 @@ impl Pair {
         told
     }
 
-    fn run_lent(&mut self, call: &Call, output: &[u8], work: &[u64]) -> Outcome {
+    /// Keeps the stores as they are before a call.
+    pub(crate) fn keep(&mut self) {
         self.before.bytes.clone_from(&self.reference.bytes);
         self.before.records.clone_from(&self.reference.records);
+    }
+
+    fn run_lent(&mut self, call: &Call, output: &[u8], work: &[u64]) -> Outcome {
+        self.keep();
         let (mut out, mut memory) = (output.to_vec(), work.to_vec());
         let expected = self.reference.run_lent(call, &mut out, &mut memory);
         let mut proved_out = Fenced::new(output, 0x5f);
@@ -115,4 +113,11 @@ impl Pair {
             work: (work.to_vec(), memory),
         }
     }
+}
+
+/// Limits and a table that is not read alike: so many bytes of it.
+pub(crate) fn shown((pieces, links): (u32, u32), table: &[u8]) -> String {
+    const SHOWN: usize = 400;
+    let bytes = hex(&table[..table.len().min(SHOWN)]);
+    format!("limits {pieces} {links}, {} bytes {bytes}", table.len())
 }

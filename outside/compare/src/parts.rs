@@ -2,11 +2,19 @@
 
 use crate::Numbers;
 
-/// A table, and at which places of it an offset leads to which other.
+/// A table, and its offsets to others.
 #[derive(Clone, Default)]
 pub struct Part {
     pub bytes: Vec<u8>,
-    leads: Vec<(usize, usize)>,
+    leads: Vec<Lead>,
+}
+
+/// An offset of so many bytes at a place, and the part that it leads to.
+#[derive(Clone, Copy)]
+struct Lead {
+    field: usize,
+    width: usize,
+    child: usize,
 }
 
 impl Part {
@@ -20,9 +28,23 @@ impl Part {
         self.bytes.extend(number.to_be_bytes());
     }
 
+    pub fn put_all(&mut self, numbers: &[u16]) {
+        numbers.iter().for_each(|&number| self.put(number));
+    }
+
     pub fn lead(&mut self, part: usize) {
-        self.leads.push((self.bytes.len(), part));
-        self.put(0);
+        self.lead_by(2, part);
+    }
+
+    /// By an offset of so many bytes.
+    pub fn lead_by(&mut self, width: usize, child: usize) {
+        let field = self.bytes.len();
+        self.leads.push(Lead {
+            field,
+            width,
+            child,
+        });
+        self.bytes.resize(field + width, 0);
     }
 }
 
@@ -32,7 +54,7 @@ pub fn laid_out(parts: &[Part], numbers: &mut Numbers) -> Vec<u8> {
     let mut waiting = vec![0; parts.len()];
     let reached = reached(parts);
     for &part in &reached {
-        for &(_, child) in &parts[part].leads {
+        for &Lead { child, .. } in &parts[part].leads {
             waiting[child] += 1;
         }
     }
@@ -45,7 +67,7 @@ pub fn laid_out(parts: &[Part], numbers: &mut Numbers) -> Vec<u8> {
         if numbers.below(6) == 0 {
             table.extend(vec![0x77; numbers.below(4)]);
         }
-        for &(_, child) in &parts[part].leads {
+        for &Lead { child, .. } in &parts[part].leads {
             waiting[child] -= 1;
             if waiting[child] == 0 {
                 ready.push(child);
@@ -53,10 +75,11 @@ pub fn laid_out(parts: &[Part], numbers: &mut Numbers) -> Vec<u8> {
         }
     }
     for &part in &reached {
-        for &(field, child) in &parts[part].leads {
-            let at = places[part] + field;
-            let offset = (places[child] - places[part]) as u16;
-            table[at..at + 2].copy_from_slice(&offset.to_be_bytes());
+        for lead in &parts[part].leads {
+            let at = places[part] + lead.field;
+            let offset = (places[lead.child] - places[part]).to_be_bytes();
+            let width = lead.width;
+            table[at..at + width].copy_from_slice(&offset[offset.len() - width..]);
         }
     }
     table
@@ -69,7 +92,7 @@ fn reached(parts: &[Part]) -> Vec<usize> {
     // A part leads to earlier ones.
     for part in (0..parts.len()).rev() {
         if is_reached[part] {
-            for &(_, child) in &parts[part].leads {
+            for &Lead { child, .. } in &parts[part].leads {
                 is_reached[child] = true;
             }
         }

@@ -4,7 +4,7 @@ use crate::fenced::Fenced;
 use bindings::calls;
 use reference::batch::Batched;
 use reference::call::{Call, Stores};
-use reference::gsub::GsubRead;
+use reference::gsub::{GsubPromoted, GsubRead};
 use reference::Answer;
 
 pub struct Proved {
@@ -48,6 +48,31 @@ impl Proved {
             depth: told.depth,
             id: told.id,
             place: told.place,
+        }
+    }
+
+    pub fn promote_gsub(
+        &mut self,
+        (pieces, links): (u32, u32),
+        table: &[u8],
+        output: &mut [u8],
+        work: &mut [u64],
+    ) -> GsubPromoted {
+        let (bytes, records) = (self.bytes.inside_mut(), self.records.inside_mut());
+        let told = calls::promote_gsub(bytes, records, pieces, links, table, output, work);
+        GsubPromoted {
+            number: told.number,
+            bytes: told.bytes,
+            links: told.links,
+            objects: told.objects,
+            depth: told.depth,
+            id: told.id,
+            length: told.length,
+            parent: told.parent,
+            field: told.field,
+            needed: told.needed,
+            place: told.place,
+            promoted: told.promoted,
         }
     }
 

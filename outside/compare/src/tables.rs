@@ -98,11 +98,25 @@ impl Making<'_> {
         part
     }
 
+    fn extension(&mut self, singles: &[usize]) -> Part {
+        let mut part = Part::of(&[1, 1]);
+        part.lead_by(4, self.numbers.one_of(singles));
+        part
+    }
+
     fn lookup(&mut self, singles: &[usize]) -> Part {
+        self.lookup_of(1, singles)
+    }
+
+    fn extended_lookup(&mut self, extensions: &[usize]) -> Part {
+        self.lookup_of(7, extensions)
+    }
+
+    fn lookup_of(&mut self, kind: u16, subtables: &[usize]) -> Part {
         let (flag, count) = (self.numbers.one_of(&FLAGS), self.count());
-        let mut part = Part::of(&[1, flag, count]);
+        let mut part = Part::of(&[kind, flag, count]);
         for _ in 0..count {
-            part.lead(self.numbers.one_of(singles));
+            part.lead(self.numbers.one_of(subtables));
         }
         if flag & 0x0010 != 0 {
             let set = self.count();
@@ -167,7 +181,9 @@ impl Making<'_> {
         let features = self.some(Making::feature, &[]);
         let coverages = self.some(Making::coverage, &[]);
         let singles = self.some(Making::single, &coverages);
-        let lookups = self.some(Making::lookup, &singles);
+        let extensions = self.some(Making::extension, &singles);
+        let mut lookups = self.some(Making::lookup, &singles);
+        lookups.extend(self.some(Making::extended_lookup, &extensions));
         let mut header = Part::of(&[1, 0]);
         for list in [
             self.tagged_list(&scripts),

@@ -193,7 +193,7 @@ fn a_cut_table_is_told_its_first_missing_field() {
 #[test]
 fn every_judged_field_is_told_by_its_place() {
     let versions = [(0, 0), (0, 2), (0, 256), (2, 1), (2, 0xffff)];
-    let types = [(56, 0), (56, 2), (68, 7), (68, 257)];
+    let types = [(56, 0), (56, 2), (68, 6), (68, 8), (68, 257), (68, 263)];
     let formats = [(76, 0), (76, 3), (82, 3), (92, 3), (100, 0), (100, 258)];
     let not_zero = [(28, 1), (28, 0xffff), (44, 1), (44, 256)];
     let offsets = [4, 6, 8, 16, 26, 42, 52, 54, 62, 64, 74, 78, 84].map(|place| (place, 0));
@@ -421,6 +421,104 @@ fn substitutes_of_the_small_table() {
     ] {
         assert_eq!(substitute(&table, lookup, glyph), becomes);
     }
+}
+
+/// One lookup of type 7. Two offsets lead to its first Extension and one to its
+/// second; both lead to one subtable.
+fn extended() -> Vec<u8> {
+    bytes(&[
+        1, 0, 10, 10, 12, // 0: three lists, two of them none
+        0,  // 10: no script, no feature
+        1, 4, // 12: one lookup
+        7, 0x0010, 3, 14, 14, 22, 9, // 16: three subtables and a mark filtering set
+        1, 1, 0, 16, // 30: an Extension
+        1, 1, 0, 8, // 38: another
+        1, 6, 3, // 46: a delta of 3
+        1, 2, 5, 8, // 52: two glyphs
+    ])
+}
+
+/// Where its first Extension is.
+const FIRST_EXTENSION: usize = 30;
+
+#[test]
+fn a_subtable_behind_extensions() {
+    let table = extended();
+    let (answer, mut left) = read_in(9, 20, 100, &table);
+    // The Extensions lead to the same subtable: they are one piece.
+    let expected = GsubRead {
+        bytes: 60 - 8,
+        links: 3 + 1 + 3 + 1 + 1,
+        objects: 7,
+        id: 6,
+        ..GsubRead::default()
+    };
+    assert_eq!(answer, expected);
+    let root = reading(&table).unwrap();
+    assert!(shows(&table, &root));
+    let pack = Call::Pack {
+        id: 6,
+        copies: 0,
+        output: 60,
+        work: 1_000,
+    };
+    let packed = left.run(&pack);
+    assert_eq!((packed.answer.number, packed.answer.length), (0, 52));
+    let packed = &packed.output[..52];
+    assert!(same(&reading(packed).unwrap(), &root));
+    for table in [&table[..], packed] {
+        let becomes = [4, 5, 6, 8].map(|glyph| substitute(table, 0, glyph));
+        assert_eq!(becomes, [4, 8, 6, 11]);
+    }
+}
+
+/// A table with another number at a place.
+fn changed(table: &[u8], place: usize, number: u16) -> Vec<u8> {
+    let mut table = table.to_vec();
+    table[place..place + 2].copy_from_slice(&number.to_be_bytes());
+    table
+}
+
+#[test]
+fn every_field_of_an_extension_is_told_by_its_place() {
+    let table = extended();
+    for (field, number) in [(0, 0), (0, 2), (0, 257), (2, 0), (2, 2), (2, 7), (2, 257)] {
+        let place = FIRST_EXTENSION + field;
+        assert_eq!(read(&changed(&table, place, number)), unreadable(place));
+        assert!(reading(&changed(&table, place, number)).is_none());
+    }
+    // An offset has four bytes, all of which count.
+    let offset = FIRST_EXTENSION + 4;
+    assert_eq!(read(&changed(&table, offset + 2, 0)), unreadable(offset));
+    let far = FIRST_EXTENSION + 65_536 + 16;
+    assert_eq!(read(&changed(&table, offset, 1)), unreadable(far));
+    let farther = FIRST_EXTENSION + (65_535 << 16) + 16;
+    assert_eq!(read(&changed(&table, offset, 0xffff)), unreadable(farther));
+    let past = FIRST_EXTENSION + 1_000;
+    assert_eq!(read(&changed(&table, offset + 2, 1_000)), unreadable(past));
+    // Cut inside, it is told as one field.
+    for (length, place) in [(30, 30), (31, 30), (33, 32), (34, 34), (36, 34), (37, 34)] {
+        assert_eq!(read(&table[..length]), unreadable(place));
+    }
+}
+
+/// Fields are put in order: the Extension's format and type before its subtable.
+#[test]
+fn an_extension_is_put_before_its_subtable() {
+    // Header, list and lookup as far as they are put, the list of none, and the
+    // Extension.
+    let before = 8 + 2 + 6 + 2;
+    let spoilt = changed(&extended(), 46, 3);
+    for (free, told) in [
+        (0, refused(6, 0)),
+        (2, refused(6, 0)),
+        (3, refused(6, 0)),
+        (4, unreadable(46)),
+    ] {
+        assert_eq!(read_in(9, 20, before + free, &spoilt).0, told);
+    }
+    let spoilt = changed(&extended(), FIRST_EXTENSION, 2);
+    assert_eq!(read_in(9, 20, before, &spoilt).0, unreadable(30));
 }
 
 /// One lookup of two subtables with these numbers from their coverages on.

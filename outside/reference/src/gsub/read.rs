@@ -47,14 +47,24 @@ impl GsubRead {
 
 /// Starts a session in these stores and reads the table into it.
 pub fn read_gsub(stores: &mut Stores, pieces: u32, links: u32, table: &[u8]) -> GsubRead {
-    read_by(pieces, links, table, &mut |call| stores.run(call).answer)
+    read_last(stores, (pieces, links), table, 0)
+}
+
+/// The same with the last lookups promoted, so many of them.
+pub(super) fn read_last(
+    stores: &mut Stores,
+    limits: (u32, u32),
+    table: &[u8],
+    promoted: u16,
+) -> GsubRead {
+    read_by(limits, table, promoted, &mut |call| stores.run(call).answer)
 }
 
 /// The read of a session by its calls. A refused one leaves what a start does.
 fn read_by(
-    pieces: u32,
-    links: u32,
+    (pieces, links): (u32, u32),
     table: &[u8],
+    promoted: u16,
     run: &mut dyn FnMut(&Call) -> Answer,
 ) -> GsubRead {
     let start = Call::Start { pieces, links };
@@ -62,8 +72,12 @@ fn read_by(
     if started.number != DONE {
         return GsubRead::refused(started.number, 0);
     }
-    let walked = Walk { slice: table, run }.whole();
-    match walked {
+    let walk = Walk {
+        slice: table,
+        promoted,
+        run,
+    };
+    match walk.whole() {
         Ok(id) => GsubRead::accepted(id, run(&Call::Tally)),
         Err(Refusal { number, place }) => {
             run(&start);
@@ -76,11 +90,22 @@ impl History {
     /// Feeds a read that lends stores of these lengths.
     pub fn read_gsub(
         &mut self,
-        (pieces, links): (u32, u32),
-        (store, records): (usize, usize),
+        limits: (u32, u32),
+        lengths: (usize, usize),
         table: &[u8],
     ) -> GsubRead {
-        read_by(pieces, links, table, &mut |call| {
+        self.read_last(limits, lengths, table, 0)
+    }
+
+    /// The same with the last lookups promoted, so many of them.
+    pub fn read_last(
+        &mut self,
+        limits: (u32, u32),
+        (store, records): (usize, usize),
+        table: &[u8],
+        promoted: u16,
+    ) -> GsubRead {
+        read_by(limits, table, promoted, &mut |call| {
             let told = self.feed(call, store, records);
             told.expect("a read makes no pack")
         })

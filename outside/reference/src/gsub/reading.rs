@@ -1,7 +1,7 @@
 //! What a table reads, by a description of each kind of table and without a
 //! session: bytes, fields, and the readings that the fields lead to.
 
-use super::{number, USE_MARK_FILTERING_SET};
+use super::{number, EXTENSION, SINGLE, USE_MARK_FILTERING_SET};
 use crate::reading::{Draft, Reading};
 use std::collections::HashMap;
 use std::rc::Rc;
@@ -16,6 +16,7 @@ enum Kind {
     Feature,
     LookupList,
     Lookup,
+    Extension,
     SingleSubst,
     Coverage,
 }
@@ -29,6 +30,8 @@ enum Part {
     Number,
     Tag,
     Offset(Kind),
+    /// An offset of four bytes.
+    LongOffset(Kind),
     /// An offset, or zero for no child.
     OffsetOrNone(Kind),
     /// A number, and then these parts as many times.
@@ -39,10 +42,21 @@ use Kind::*;
 use Part::*;
 
 const NUMBERS: Part = Repeated(&[Number]);
+const SINGLES: Part = Repeated(&[Offset(SingleSubst)]);
+const EXTENSIONS: Part = Repeated(&[Offset(Extension)]);
+
+impl Part {
+    fn width(self) -> usize {
+        match self {
+            Tag | LongOffset(_) => 4,
+            _ => 2,
+        }
+    }
+}
 
 impl Kind {
-    /// The parts of the table of this kind at a place. Formats and the lookup
-    /// flag decide what follows them.
+    /// The parts of the table of this kind at a place. Formats, the lookup type and
+    /// the lookup flag decide what follows them.
     fn parts(self, slice: &[u8], place: usize) -> Option<&'static [Part]> {
         let at = |further| number(slice, place + further);
         Some(match self {
@@ -59,10 +73,13 @@ impl Kind {
             FeatureList => &[Repeated(&[Tag, Offset(Feature)])],
             Feature => &[Fixed(0), NUMBERS],
             LookupList => &[Repeated(&[Offset(Lookup)])],
-            Lookup if at(2)? & USE_MARK_FILTERING_SET == 0 => {
-                &[Fixed(1), Number, Repeated(&[Offset(SingleSubst)])]
-            }
-            Lookup => &[Fixed(1), Number, Repeated(&[Offset(SingleSubst)]), Number],
+            Lookup => match (at(0)?, at(2)? & USE_MARK_FILTERING_SET) {
+                (EXTENSION, 0) => &[Fixed(EXTENSION), Number, EXTENSIONS],
+                (EXTENSION, _) => &[Fixed(EXTENSION), Number, EXTENSIONS, Number],
+                (_, 0) => &[Fixed(SINGLE), Number, SINGLES],
+                _ => &[Fixed(SINGLE), Number, SINGLES, Number],
+            },
+            Extension => &[Fixed(1), Fixed(SINGLE), LongOffset(SingleSubst)],
             SingleSubst if at(0)? == 1 => &[Fixed(1), Offset(Coverage), Number],
             SingleSubst => &[Fixed(2), Offset(Coverage), NUMBERS],
             Coverage if at(0)? == 1 => &[Fixed(1), NUMBERS],
@@ -103,14 +120,14 @@ impl Tables<'_> {
     fn append(&mut self, parts: &[Part], place: usize, draft: &mut Draft) -> Option<()> {
         for part in parts {
             let here = place + draft.size();
-            let width = if let Tag = part { 4 } else { 2 };
+            let width = part.width();
             let bytes = self.slice.get(here..here + width)?;
-            let number = number(bytes, 0)?;
+            let number = big_endian(bytes);
             match *part {
-                Fixed(other) if number != other => return None,
-                Offset(_) if number == 0 => return None,
-                Offset(kind) | OffsetOrNone(kind) if number != 0 => {
-                    let child = self.reading(kind, place + usize::from(number))?;
+                Fixed(other) if number != usize::from(other) => return None,
+                Offset(_) | LongOffset(_) if number == 0 => return None,
+                Offset(kind) | LongOffset(kind) | OffsetOrNone(kind) if number != 0 => {
+                    let child = self.reading(kind, place + number)?;
                     draft.link(width, 0, child);
                 }
                 _ => draft.put(bytes),
@@ -123,4 +140,62 @@ impl Tables<'_> {
         }
         Some(())
     }
+}
+
+fn big_endian(bytes: &[u8]) -> usize {
+    bytes
+        .iter()
+        .fold(0, |number, &byte| 256 * number + usize::from(byte))
+}
+
+/// What a table reads in which the last lookups stand promoted, so many of them:
+/// by what the table itself reads.
+pub fn promoted(table: &Rc<Reading>, last: usize) -> Rc<Reading> {
+    const LOOKUP_LIST: usize = 2;
+    with_children(table, table.bytes(), |at, child| match at {
+        LOOKUP_LIST => promoted_list(child, last),
+        _ => Rc::clone(child),
+    })
+}
+
+fn promoted_list(list: &Rc<Reading>, last: usize) -> Rc<Reading> {
+    let first = list.fields().len().saturating_sub(last);
+    with_children(list, list.bytes(), |at, lookup| {
+        if at < first {
+            Rc::clone(lookup)
+        } else {
+            promoted_lookup(lookup)
+        }
+    })
+}
+
+/// One of type 7 is as it was.
+fn promoted_lookup(lookup: &Rc<Reading>) -> Rc<Reading> {
+    let kind = EXTENSION.to_be_bytes();
+    if lookup.bytes().starts_with(&kind) {
+        return Rc::clone(lookup);
+    }
+    let bytes = [&kind, &lookup.bytes()[kind.len()..]].concat();
+    with_children(lookup, &bytes, |_, subtable| {
+        let mut extension = Draft::default();
+        extension.put(&1_u16.to_be_bytes());
+        extension.put(&SINGLE.to_be_bytes());
+        extension.link(4, 0, Rc::clone(subtable));
+        extension.finish()
+    })
+}
+
+/// A reading with these bytes, and each field's child made anew.
+fn with_children(
+    reading: &Reading,
+    bytes: &[u8],
+    child: impl Fn(usize, &Rc<Reading>) -> Rc<Reading>,
+) -> Rc<Reading> {
+    let mut draft = Draft::default();
+    for (at, field) in reading.fields().iter().enumerate() {
+        draft.put(&bytes[draft.size()..field.place]);
+        draft.link(field.width, field.inner, child(at, &field.child));
+    }
+    draft.put(&bytes[draft.size()..]);
+    draft.finish()
 }

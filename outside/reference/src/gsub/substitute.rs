@@ -1,12 +1,13 @@
 //! What a lookup does to a glyph, in a table that a read accepts.
 
-use super::number;
+use super::{long_number, number, EXTENSION};
 
 /// The header's fields, and those of the tables below, by their places.
 const LOOKUP_LIST: usize = 8;
 const FIRST_LOOKUP: usize = 2;
 const SUBTABLE_COUNT: usize = 4;
 const FIRST_SUBTABLE: usize = 6;
+const EXTENDED: usize = 4;
 const COVERAGE: usize = 2;
 const DELTA: usize = 4;
 const SUBSTITUTE_COUNT: usize = 4;
@@ -31,12 +32,22 @@ pub fn substitute(slice: &[u8], lookup: u16, glyph: u16) -> u16 {
     let count = usize::from(field(slice, lookup + SUBTABLE_COUNT));
     // The first subtable that covers the glyph counts, whatever it does to it.
     for at in 0..count {
-        let subtable = led(slice, lookup, FIRST_SUBTABLE + 2 * at);
+        let subtable = subtable(slice, lookup, at);
         if let Some(index) = covered(slice, led(slice, subtable, COVERAGE), glyph) {
             return replaced(slice, subtable, index, glyph);
         }
     }
     glyph
+}
+
+/// A lookup's subtable of this number: of type 7, what its Extension leads to.
+fn subtable(slice: &[u8], lookup: usize, at: usize) -> usize {
+    let subtable = led(slice, lookup, FIRST_SUBTABLE + 2 * at);
+    if field(slice, lookup) != EXTENSION {
+        return subtable;
+    }
+    let offset = long_number(slice, subtable + EXTENDED);
+    subtable + offset.expect("a read accepts the table") as usize
 }
 
 /// By a subtable that has the glyph at this index of its coverage.

@@ -1,7 +1,7 @@
 //! The way of a read: each table's fields one by one, each offset followed as
 //! soon as it is read.
 
-use super::{number, USE_MARK_FILTERING_SET};
+use super::{long_number, number, EXTENSION, SINGLE, USE_MARK_FILTERING_SET};
 use crate::answer::{Answer, DONE, UNREADABLE};
 use crate::call::Call;
 
@@ -16,6 +16,8 @@ type Step<T> = Result<T, Refusal>;
 /// A slice, and what carries out the calls of its session.
 pub struct Walk<'a> {
     pub slice: &'a [u8],
+    /// How many of the last lookups are promoted.
+    pub promoted: u16,
     pub run: &'a mut dyn FnMut(&Call) -> Answer,
 }
 
@@ -82,23 +84,72 @@ impl Walk<'_> {
     fn lookup_list(&mut self, begin: usize) -> Step<u32> {
         let mut table = self.open(begin)?;
         let count = self.plain(&mut table)?;
-        for _ in 0..count {
-            self.offset(&mut table, Walk::lookup)?;
+        let first_promoted = count.saturating_sub(self.promoted);
+        for at in 0..count {
+            if at < first_promoted {
+                self.offset(&mut table, Walk::lookup)?;
+            } else {
+                self.offset(&mut table, Walk::promoted_lookup)?;
+            }
         }
         self.close()
     }
 
     fn lookup(&mut self, begin: usize) -> Step<u32> {
         let mut table = self.open(begin)?;
-        self.judged(&mut table, |kind| kind == 1)?;
+        let kind = self.judged(&mut table, one_or_seven)?;
+        if kind == SINGLE {
+            self.flag_and_subtables(table, Walk::single_substitution)
+        } else {
+            self.flag_and_subtables(table, Walk::extension)
+        }
+    }
+
+    /// One of type 7 is left as it is.
+    fn promoted_lookup(&mut self, begin: usize) -> Step<u32> {
+        let mut table = self.open(begin)?;
+        let kind = self.met(&table, one_or_seven)?;
+        self.put(&EXTENSION.to_be_bytes())?;
+        table.next += 2;
+        if kind == SINGLE {
+            self.flag_and_subtables(table, Walk::new_extension)
+        } else {
+            self.flag_and_subtables(table, Walk::extension)
+        }
+    }
+
+    /// What a lookup has behind its type.
+    fn flag_and_subtables(
+        &mut self,
+        mut table: Table,
+        subtable: fn(&mut Self, usize) -> Step<u32>,
+    ) -> Step<u32> {
         let flag = self.plain(&mut table)?;
         let count = self.plain(&mut table)?;
         for _ in 0..count {
-            self.offset(&mut table, Walk::single_substitution)?;
+            self.offset(&mut table, subtable)?;
         }
         if flag & USE_MARK_FILTERING_SET != 0 {
             self.plain(&mut table)?;
         }
+        self.close()
+    }
+
+    fn extension(&mut self, begin: usize) -> Step<u32> {
+        let mut table = self.open(begin)?;
+        self.judged(&mut table, |format| format == 1)?;
+        self.judged(&mut table, |kind| kind == SINGLE)?;
+        self.long_offset(&mut table, Walk::single_substitution)?;
+        self.close()
+    }
+
+    /// An Extension that the slice does not have, to the subtable at a place.
+    fn new_extension(&mut self, subtable: usize) -> Step<u32> {
+        self.call(&Call::Open)?;
+        self.put(&1_u16.to_be_bytes())?;
+        self.put(&SINGLE.to_be_bytes())?;
+        let id = self.single_substitution(subtable)?;
+        self.link(4, id)?;
         self.close()
     }
 
@@ -135,6 +186,10 @@ fn one_or_two(format: u16) -> bool {
     format == 1 || format == 2
 }
 
+fn one_or_seven(kind: u16) -> bool {
+    kind == SINGLE || kind == EXTENSION
+}
+
 /// The fields.
 impl Walk<'_> {
     /// A count, and as many tags, each with an offset.
@@ -147,11 +202,16 @@ impl Walk<'_> {
         Ok(())
     }
 
-    /// A count, and as many numbers.
+    /// A count, and as many numbers. Those that the slice has are put in one: if
+    /// one of them has no room, that is told before the one that is missing.
     fn counted(&mut self, table: &mut Table) -> Step<()> {
-        let count = self.plain(table)?;
-        for _ in 0..count {
-            self.plain(table)?;
+        let count = usize::from(self.plain(table)?);
+        let rest = self.slice.get(table.next..).unwrap_or_default();
+        let there = count.min(rest.len() / 2);
+        self.put(&rest[..2 * there])?;
+        table.next += 2 * there;
+        if there < count {
+            return Err(unreadable(table.next));
         }
         Ok(())
     }
@@ -162,12 +222,18 @@ impl Walk<'_> {
 
     /// A number, put if it is as it should be.
     fn judged(&mut self, table: &mut Table, good: fn(u16) -> bool) -> Step<u16> {
+        let number = self.met(table, good)?;
+        self.put(&number.to_be_bytes())?;
+        table.next += 2;
+        Ok(number)
+    }
+
+    /// The number of the next field, if it is as it should be.
+    fn met(&self, table: &Table, good: fn(u16) -> bool) -> Step<u16> {
         let number = self.peek(table)?;
         if !good(number) {
             return Err(unreadable(table.next));
         }
-        self.put(&number.to_be_bytes())?;
-        table.next += 2;
         Ok(number)
     }
 
@@ -182,14 +248,24 @@ impl Walk<'_> {
 
     /// An offset from the table's first byte: its child in full, then the link.
     fn offset(&mut self, table: &mut Table, child: fn(&mut Self, usize) -> Step<u32>) -> Step<()> {
-        let offset = self.peek(table)?;
-        if offset == 0 {
-            return Err(unreadable(table.next));
-        }
+        let offset = self.met(table, |offset| offset != 0)?;
         let id = child(self, table.begin + usize::from(offset))?;
-        let (width, inner) = (2, 0);
-        self.call(&Call::Link { width, id, inner })?;
+        self.link(2, id)?;
         table.next += 2;
+        Ok(())
+    }
+
+    /// The same of four bytes.
+    fn long_offset(
+        &mut self,
+        table: &mut Table,
+        child: fn(&mut Self, usize) -> Step<u32>,
+    ) -> Step<()> {
+        let offset = long_number(self.slice, table.next).filter(|&offset| offset != 0);
+        let offset = offset.ok_or(unreadable(table.next))?;
+        let id = child(self, table.begin + offset as usize)?;
+        self.link(4, id)?;
+        table.next += 4;
         Ok(())
     }
 
@@ -216,6 +292,11 @@ impl Walk<'_> {
 
     fn put(&mut self, field: &[u8]) -> Step<()> {
         self.call(&Call::Put(field.to_vec())).map(|_| ())
+    }
+
+    fn link(&mut self, width: u32, id: u32) -> Step<()> {
+        let inner = 0;
+        self.call(&Call::Link { width, id, inner }).map(|_| ())
     }
 
     fn close(&mut self) -> Step<u32> {

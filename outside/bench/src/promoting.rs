@@ -1,0 +1,91 @@
+//! A table half of whose lookups have to be promoted, beside one read and one pack
+//! of the table that it becomes, which is what the last trial does.
+//!
+//! `cargo run --offline --profile bench --package bench -- promotes` prints the line
+//! alone.
+
+use crate::timing::microseconds;
+use bindings::{calls, records_need, work_need};
+use compare::nested::Nested;
+use reference::random::Numbers;
+
+const LOOKUPS: usize = 64;
+const PROMOTED: u64 = 32;
+
+/// So many make a subtable of 2,026 bytes: 32 of them have room between the first
+/// and its coverage, and 33 have not.
+const SUBSTITUTES: usize = 1_010;
+
+const OBJECTS: u32 = 512;
+const LINKS: u32 = 512;
+const STORE: usize = 1 << 18;
+const TURNS: usize = 12;
+
+/// Prints the line, if the words ask for nothing else.
+pub fn asked() -> bool {
+    let asked = std::env::args().skip(1).eq(["promotes"]);
+    if asked {
+        print();
+    }
+    asked
+}
+
+pub fn print() {
+    let mut lent = Lent::new();
+    let table = Nested::even(LOOKUPS, SUBSTITUTES).laid_out(&mut Numbers::new(1));
+    let length = lent.promote(&table.0);
+    let packed = lent.out[..length].to_vec();
+    let (mut promoted, mut once) = (f64::MAX, f64::MAX);
+    for _ in 0..TURNS {
+        promoted = promoted.min(microseconds(|| {
+            lent.promote(&table.0);
+        }));
+        once = once.min(microseconds(|| lent.read_and_pack(&packed)));
+    }
+    println!(
+        "\n{:<46}{:>12}{:>16}{:>8}\n{:<46}{promoted:>12.1}{once:>16.1}{:>8.1}",
+        "lookups promoted",
+        "proved µs",
+        "read and pack",
+        "ratio",
+        format!("{PROMOTED} of {LOOKUPS}, {} bytes", packed.len()),
+        promoted / once
+    );
+}
+
+/// Memory that is lent again in every turn.
+struct Lent {
+    store: Vec<u8>,
+    records: Vec<u32>,
+    out: Vec<u8>,
+    work: Vec<u64>,
+}
+
+impl Lent {
+    fn new() -> Lent {
+        Lent {
+            store: vec![0; STORE],
+            records: vec![0; records_need(OBJECTS, LINKS)],
+            out: vec![0; STORE],
+            work: vec![0; work_need(OBJECTS, LINKS, 0)],
+        }
+    }
+
+    /// Gives the packed table's length.
+    fn promote(&mut self, table: &[u8]) -> usize {
+        let (store, records) = (&mut self.store, &mut self.records);
+        let (out, work) = (&mut self.out, &mut self.work);
+        let told = calls::promote_gsub(store, records, OBJECTS, LINKS, table, out, work);
+        assert_eq!((told.number, told.promoted), (0, PROMOTED));
+        told.length as usize
+    }
+
+    fn read_and_pack(&mut self, table: &[u8]) {
+        let (store, records) = (&mut self.store, &mut self.records);
+        let (out, work) = (&mut self.out, &mut self.work);
+        let read = calls::read_gsub(store, records, OBJECTS, LINKS, table);
+        assert_eq!(read.number, 0);
+        let packed = calls::pack(store, records, read.id as u32, 0, out, work);
+        assert_eq!((packed.number, packed.length), (0, table.len() as u64));
+    }
+}
