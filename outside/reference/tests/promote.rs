@@ -1,5 +1,8 @@
 //! Promotions counted by hand, in the order of the rules' section 15.
 
+mod large;
+
+use large::{bytes, eight, five, growing, sharing, sum, table, OWN};
 use reference::call::{Call, Stores, STALE_BYTE, STALE_WORK};
 use reference::gsub::reading::{promoted, reading};
 use reference::gsub::{lookup_count, promote_gsub, read_gsub, substitute, GsubPromoted};
@@ -7,105 +10,6 @@ use reference::history::History;
 use reference::limits::{record_need, work_need};
 use reference::reader::shows;
 use reference::reading::same;
-
-/// A table's lookups: the type of each, and which subtables it has.
-type Lookups<'a> = [(u16, &'a [usize])];
-
-/// A subtable: how many substitutes it has, and which coverage.
-type Subtable = (u16, usize);
-
-/// Big-endian.
-fn bytes(numbers: &[usize]) -> Vec<u8> {
-    let halves = numbers.iter().map(|&n| u16::try_from(n).unwrap());
-    halves.flat_map(u16::to_be_bytes).collect()
-}
-
-const LOOKUP_LIST: usize = 12;
-const FILL: usize = 0x0909;
-
-/// A table whose list has these lookups, by number. A coverage has one glyph, its
-/// number. Subtables lie in one another: what follows one's count, those behind it
-/// and the coverages among it, are its substitutes, so that a short table reads as
-/// long ones.
-fn table(list: &[usize], lookups: &Lookups, subtables: &[Subtable]) -> Vec<u8> {
-    let lookup = |at: usize| {
-        let before = lookups[..at].iter().map(|(_, own)| 6 + 2 * own.len());
-        LOOKUP_LIST + 2 + 2 * list.len() + before.sum::<usize>()
-    };
-    let extended = lookups.iter().filter(|(kind, _)| *kind == 7);
-    let first_extension = lookup(lookups.len());
-    let extensions: usize = extended.map(|(_, own)| own.len()).sum();
-    let first_subtable = first_extension + 8 * extensions;
-    let mut table = bytes(&[1, 0, 10, 10, LOOKUP_LIST, 0, list.len()]);
-    for &at in list {
-        table.extend(bytes(&[lookup(at) - LOOKUP_LIST]));
-    }
-    let (mut extension, mut led) = (first_extension, Vec::new());
-    for (at, (kind, own)) in lookups.iter().enumerate() {
-        table.extend(bytes(&[usize::from(*kind), 0, own.len()]));
-        for &subtable in *own {
-            let mut place = first_subtable + 6 * subtable;
-            if *kind == 7 {
-                led.extend(bytes(&[1, 1, 0, place - extension]));
-                place = extension;
-                extension += 8;
-            }
-            table.extend(bytes(&[place - lookup(at)]));
-        }
-    }
-    table.extend(led);
-    put_subtables(&mut table, subtables);
-    table
-}
-
-/// At the end of a table its subtables, their coverages, and the fill.
-fn put_subtables(table: &mut Vec<u8>, subtables: &[Subtable]) {
-    let first_subtable = table.len();
-    let first_coverage = first_subtable + 6 * subtables.len();
-    for (at, &(count, coverage)) in subtables.iter().enumerate() {
-        let offset = first_coverage + 6 * coverage - (first_subtable + 6 * at);
-        table.extend(bytes(&[2, offset, count.into()]));
-    }
-    let coverages = subtables.iter().map(|(_, coverage)| coverage + 1).max();
-    for glyph in 0..coverages.unwrap_or(0) {
-        table.extend(bytes(&[1, 1, glyph]));
-    }
-    for (at, &(count, _)) in subtables.iter().enumerate() {
-        let end = first_subtable + 6 * (at + 1) + 2 * usize::from(count);
-        while table.len() < end {
-            table.extend(bytes(&[FILL]));
-        }
-    }
-}
-
-/// So many subtables, each with its own coverage: the first of this many
-/// substitutes, and each with one more than the one before.
-fn growing(subtables: usize, substitutes: u16) -> Vec<Subtable> {
-    (0..subtables)
-        .map(|at| (substitutes + at as u16, at))
-        .collect()
-}
-
-/// The bytes of these subtables.
-fn sum(subtables: &[Subtable]) -> u64 {
-    subtables
-        .iter()
-        .map(|(count, _)| 6 + 2 * u64::from(*count))
-        .sum()
-}
-
-/// HarfBuzz's test of its own promotion: five lookups, each of two subtables of
-/// some 15,000 bytes.
-fn five() -> Vec<u8> {
-    let lookups: [(u16, &[usize]); 5] = [
-        (1, &[0, 1]),
-        (1, &[2, 3]),
-        (1, &[4, 5]),
-        (1, &[6, 7]),
-        (1, &[8, 9]),
-    ];
-    table(&[0, 1, 2, 3, 4], &lookups, &growing(10, 7_500))
-}
 
 /// What it holds with the last three promoted: header, a list of nothing, list,
 /// lookups, six Extensions, subtables and their coverages.
@@ -242,21 +146,10 @@ fn five_lookups_of_which_three_are_promoted() {
     assert_eq!(types(&packed), [1, 1, 7, 7, 7]);
 }
 
-/// Each of five lookups has the first subtable, of some 10,000 bytes, and one of
-/// its own, of 17,000: beside the first there is room for three near the list. The
-/// Extensions of both promoted lookups to the first subtable are equal.
+/// The Extensions of both promoted lookups to the first subtable are equal.
 #[test]
 fn a_subtable_that_lookups_share() {
-    let lookups: [(u16, &[usize]); 5] = [
-        (1, &[0, 1]),
-        (1, &[0, 2]),
-        (1, &[0, 3]),
-        (1, &[0, 4]),
-        (1, &[0, 5]),
-    ];
-    let mut subtables = growing(6, 8_500);
-    subtables[0].0 = 5_000;
-    let table = table(&[0, 1, 2, 3, 4], &lookups, &subtables);
+    let (table, subtables) = sharing();
     let (told, packed, _) = promote(ROOMY, &table);
     let bytes = 10 + 2 + 12 + 5 * 10 + 3 * 8 + sum(&subtables) + 6 * 6;
     assert_eq!(told, accepted(2, 3 + 5 + 3 + 12, 3 + 5 + 10 + 3 + 6, bytes));
@@ -266,10 +159,8 @@ fn a_subtable_that_lookups_share() {
 /// They count as promoted, and are left as they are.
 #[test]
 fn lookups_of_type_7() {
-    let eight: [(u16, &[usize]); 8] = [0, 1, 2, 3, 4, 5, 6, 7].map(|at| (7, &OWN[at][..]));
-    let subtables = growing(8, 15_000);
-    let all = [0, 1, 2, 3, 4, 5, 6, 7];
-    let (told, packed, _) = promote(ROOMY, &table(&all, &eight, &subtables));
+    let (eight, subtables) = eight();
+    let (told, packed, _) = promote(ROOMY, &eight);
     let bytes = 10 + 2 + 18 + 8 * 8 + 8 * 8 + sum(&subtables) + 8 * 6;
     assert_eq!(told, accepted(0, 3 + 8 + 8 + 16, 3 + 8 + 8 + 8 + 8, bytes));
     assert_eq!(types(&packed), [7; 8]);
@@ -288,9 +179,6 @@ fn lookups_of_type_7() {
     assert_eq!(told, expected(1));
     assert_eq!(types(&packed), [7, 7, 7, 7, 7, 7, 7, 7, 1, 1, 7]);
 }
-
-/// One subtable each.
-const OWN: [[usize; 1]; 11] = [[0], [1], [2], [3], [4], [5], [6], [7], [8], [9], [10]];
 
 /// Promoted for its last offset alone, it is there twice, and its subtable is
 /// still near the list, where there is no room for the third.

@@ -1,5 +1,9 @@
 //! Tables whose lookups are promoted: as few as an order fits.
 
+#[path = "../../../../reference/tests/large/mod.rs"]
+#[allow(dead_code)]
+mod large;
+
 use compare::made::Room;
 use compare::nested::Nested;
 use compare::promotions::Outcome;
@@ -181,6 +185,20 @@ fn lookups_are_promoted_at_random() {
     }
     for count in [seen.none, seen.one, seen.some, seen.all, seen.extended] {
         assert!(count >= 60);
+    }
+}
+
+/// HarfBuzz's own tests: lookups that need it promoted, with subtables that they
+/// share too, and none that are of type 7 already.
+#[test]
+fn harfbuzz() {
+    let mut numbers = seed::numbers("promotions of HarfBuzz");
+    let mut seen = Seen::default();
+    let tables = [large::five(), large::sharing().0, large::eight().0];
+    for (table, promoted) in tables.iter().zip([3, 2, 0]) {
+        let need = bindings::work_need(LARGE.pieces, LARGE.links, 0);
+        let told = promote(LARGE, table, (LARGE.store, need), &mut seen, &mut numbers);
+        assert_eq!((told.number, told.promoted), (0, promoted));
     }
 }
 
