@@ -21,7 +21,7 @@ ghost use Rattle.steps.specs.Runs.{stores};
 ghost use Rattle.gsub.specs.declared.Kind.the-variants.{Header};
 ghost use Rattle.gsub.specs.Meaning.{deepest};
 ghost use Rattle.gsub.specs.Promote.{modeOps};
-ghost use Rattle.gsub_walk.specs.Fields.{Fits};
+ghost use Rattle.gsub_rows.specs.Fields.{Fits};
 ghost use Rattle.gsub_read.specs.Read.{toldByRead, readLeft, opsStep, readStep};
 
 // A read in a mode, for proved callers.

@@ -1,8 +1,3 @@
-pub mod Numbers
-pub mod Times
-pub mod Runs
-pub mod Laid
-pub mod Looks
 pub mod Judging
 pub mod Values
 pub mod Stacks

@@ -24,10 +24,10 @@ use Rattle.gsub.specs.Meaning.{deepest}
 use Rattle.gsub.specs.Promote.{newBytes, isLast, byKind, childMode}
 use Rattle.gsub.proofs.Accepted.{act-room}
 use Rattle.gsub.proofs.Changed.{changed, same-length, same-part, another-type, type-bytes}
+use Rattle.gsub_rows.specs.Fields.{farthest, mostWidth, Narrow, Found, Fits}
 use Rattle.gsub_walk.specs.declared.walk.Frame.{Frame}
 use Rattle.gsub_walk.specs.declared.walk.Walk.{Walk}
 use Rattle.gsub_walk.specs.declared.walk.Move.the-variants as Move
-use Rattle.gsub_walk.specs.Fields.{farthest, mostWidth, Narrow, Found, Fits}
 use Rattle.gsub_walk.specs.Rest.{bytesOf, placeOf, FrameOk, Standing, advanced, entered, Goes, Stops, MovesBy, NextIs, AsIs}
 use Rattle.gsub_walk.proofs.Values.{value-below}
 use Rattle.gsub_walk.proofs.Moving.{next-ok, field-narrow, stop-stops, behind-stands, put-goes, deep-stops, begin-goes}

@@ -16,12 +16,12 @@ use Rattle.gsub.specs.Tables.{uint16}
 use Rattle.gsub.specs.Ops.{valueAt, act, begin, put, link, end, stop, actOps, fieldsOps}
 use Rattle.gsub.specs.Meaning.{deepest}
 use Rattle.gsub.specs.Promote.{childPlace, modeOps}
+use Rattle.gsub_rows.specs.declared.fields.Next.{Next}
+use Rattle.gsub_rows.specs.declared.fields.Next.the-variants.{Some, None}
+use Rattle.gsub_rows.specs.Fields.{farthest, Found, Narrow, Fits}
 use Rattle.gsub_walk.specs.declared.walk.Frame.{Frame}
 use Rattle.gsub_walk.specs.declared.walk.Walk.{Walk}
 use Rattle.gsub_walk.specs.declared.walk.Move.the-variants as Move
-use Rattle.gsub_walk.specs.declared.fields.Next.{Next}
-use Rattle.gsub_walk.specs.declared.fields.Next.the-variants.{Some, None}
-use Rattle.gsub_walk.specs.Fields.{farthest, Found, Narrow, Fits}
 use Rattle.gsub_walk.specs.Rest.{stack, nextOf, frameOf, bytesOf, placeOf, fieldsOf, fieldsLeft, modeOf, childOps, rest, restOf, FrameOk, Standing, advanced, linked, entered, left, Goes, Stops, MovesBy, NextIs, noFrame, begunAt, FramesOk}
 use Rattle.gsub_walk.proofs.Stacks.{under, standing-is, top-ok, advanced-is, advanced-stands, left-stands, linked-stands, entered-is, entered-stands, frame-ok}
 

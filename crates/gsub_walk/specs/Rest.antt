@@ -14,13 +14,13 @@ use Rattle.gsub.specs.declared.Mode.the-variants.{Plain as plain}
 use Rattle.gsub.specs.Ops.{Op, begin, put, link, end, stop, fieldsOps}
 use Rattle.gsub.specs.Promote.{newBytes, bytesIn, placeIn, childMode, childPlace, modeOps}
 use Rattle.gsub.specs.Meaning.{deepest}
+use Rattle.gsub_rows.specs.declared.fields.Next.the-variants.{Some}
+use Rattle.gsub_rows.specs.Fields.{farthest, mostWidth, Found, Fits}
 use Rattle.gsub_walk.specs.declared.walk.Frame.{Frame}
 use Rattle.gsub_walk.specs.declared.walk.Walk.{Walk}
 use Rattle.gsub_walk.specs.declared.walk.Moved.{Moved}
 use Rattle.gsub_walk.specs.declared.walk.Move.{Move}
 use Rattle.gsub_walk.specs.declared.walk.Move.the-variants as Move
-use Rattle.gsub_walk.specs.declared.fields.Next.the-variants.{Some}
-use Rattle.gsub_walk.specs.Fields.{farthest, mostWidth, Found, Fits}
 
 -- ---- the open tables, the innermost first
 

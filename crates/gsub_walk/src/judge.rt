@@ -7,7 +7,7 @@ ghost use Prim.Native.Nat.{_+_};
 ghost use lib.ListN.{length};
 ghost use lib.Dec.{leb};
 ghost use Rattle.gsub.specs.Ops.{byRule as actOf, act};
-ghost use Rattle.gsub_walk.specs.Fields.{Narrow};
+ghost use Rattle.gsub_rows.specs.Fields.{Narrow};
 
 fn by_rule(rule: Rule, v: usize) -> Act
     ensures { λ r. ⌜ r ≡ actOf rule v ⌝ }

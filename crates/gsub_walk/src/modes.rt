@@ -1,8 +1,8 @@
 // How a child is read, by how its parent is.
-use crate::fields::less;
 use gsub::Kind;
 use gsub::Mode;
 use gsub::word_at;
+use gsub_rows::fields::less;
 ghost use mathlib.Core.Path.{_≡_};
 ghost use mathlib.Core.Bool.{_&&_};
 ghost use Prim.Native.Nat.{_≤_};
@@ -11,7 +11,7 @@ ghost use Rattle.lists.specs.Lists.{pick};
 ghost use Rattle.gsub.specs.Tables.{wordAt};
 ghost use Rattle.gsub.specs.Promote.{isLast, childMode};
 ghost use Rattle.gsub.specs.declared.Mode.the-variants.{Plain, Promoted};
-ghost use Rattle.gsub_walk.specs.Fields.{farthest};
+ghost use Rattle.gsub_rows.specs.Fields.{farthest};
 
 // The type of a lookup that is promoted.
 const SINGLE: usize = 1;

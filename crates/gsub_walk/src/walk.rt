@@ -1,6 +1,4 @@
 // The tables that a read is in, and its next move.
-use crate::fields::Next;
-use crate::fields::next_in;
 use crate::judge::judge;
 use crate::judge::lies_in;
 use crate::modes::child_mode;
@@ -9,6 +7,8 @@ use gsub::Field;
 use gsub::Kind;
 use gsub::Mode;
 use gsub::NEW;
+use gsub_rows::fields::Next;
+use gsub_rows::fields::next_in;
 ghost use mathlib.Core.Path.{_≡_};
 ghost use mathlib.Core.Bool.{true, false};
 ghost use Prim.Native.Nat.{ℕ, _+_, _-_, _<_, _≤_};
@@ -16,7 +16,7 @@ ghost use lib.ListN.{getD};
 ghost use mathlib.Core.List.{List};
 ghost use Rattle.gsub.specs.declared.Mode.the-variants.{Promoted, New};
 ghost use Rattle.gsub.specs.Meaning.{deepest};
-ghost use Rattle.gsub_walk.specs.Fields.{mostWidth, Narrow};
+ghost use Rattle.gsub_rows.specs.Fields.{mostWidth, Narrow};
 ghost use Rattle.gsub_walk.specs.Rest.{Standing, FrameOk, noFrame, advanced, entered, linked, left, Moves, NextIs, AsIs, begunAt};
 
 // Header, LookupList, Lookup, Extension, SingleSubst, Coverage: none lies deeper.

@@ -10,7 +10,7 @@ use Rattle.gsub.specs.declared.Kind.the-variants.{Header}
 use Rattle.gsub.specs.Ops.{Op}
 use Rattle.gsub.specs.Meaning.{deepest}
 use Rattle.gsub.proofs.Plain.{plain-ops}
-use Rattle.gsub_walk.specs.Fields.{Fits}
+use Rattle.gsub_rows.specs.Fields.{Fits}
 use Rattle.gsub_read.specs.Read.{opsStep}
 use Rattle.gsub_read.proofs.read_gsub.Statement.{statement}
 use Rattle.gsub_read.proofs.read_gsub.Tie as tie
