@@ -9,7 +9,7 @@ use session_batch_turn::Ending;
 use session_batch_turn::Progress;
 use session_batch_turn::Turn;
 use session_batch_turn::take_turn;
-use session_index::chains::ENTRY_WORDS;
+use session_chains::ENTRY_WORDS;
 use session_index::look::make;
 use session_tally::tally_sound;
 use soundness::is_sound;

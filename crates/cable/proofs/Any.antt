@@ -10,7 +10,7 @@ use borrow.Author.Tests.{leb-true, leb-false, ltb-true, ltb-false}
 use Rattle.lists.specs.Lists.{pick}
 use Rattle.lists.proofs.Over.{length-over, over-drop}
 use Rattle.lists.proofs.Same.{and-left, and-right}
-use Rattle.cable_send.specs.Frame.{frameSize}
+use Rattle.cable_frame.specs.Frame.{frameSize}
 use Rattle.cable_scan.specs.Scan.{lineNext, ends, scanned, scanOn}
 use Rattle.cable_judge.specs.declared.answers.Feeding.the-variants as Feeding
 use Rattle.cable_judge.specs.Judge.{toldCount, toldSize, toldData, isAwaited, fitsOut, accepted, outcome, verdict}

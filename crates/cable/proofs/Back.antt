@@ -15,7 +15,7 @@ use Rattle.lists.proofs.Same.{and-left, and-right}
 use Rattle.lists.proofs.Over.{length-over}
 use Rattle.lists.proofs.Overs.{over-then}
 use Rattle.lists.proofs.Runs.{over-none}
-use Rattle.cable_send.specs.Frame.{frame, frameSize, mostFrames, mostBytes, frameCount, framesFrom, sent}
+use Rattle.cable_frame.specs.Frame.{frame, frameSize, mostFrames, mostBytes, frameCount, framesFrom, sent}
 use Rattle.cable_scan.specs.Scan.{stretchesOn, stretches}
 use Rattle.cable_judge.specs.Judge.{agrees, rightSize, Outcome, outcome, verdict}
 use Rattle.cable_judge.specs.declared.answers.Feeding.the-variants as Feeding

@@ -15,8 +15,8 @@ use Rattle.lists.proofs.Same.{and-left}
 use Rattle.big_endian.specs.BigEndian.{capacity, bigEndian, readBig}
 use Rattle.big_endian.proofs.Laws.{length-big, big-read}
 use Rattle.text.proofs.Decimals.{width-ten}
-use Rattle.cable_send.specs.Frame.{checkKey, lineFeed, frame, mostFrames}
-use Rattle.cable_send.proofs.LinesPut.{length-frame}
+use Rattle.cable_frame.specs.Frame.{checkKey, lineFeed, frame, mostFrames}
+use Rattle.cable_frame.proofs.LinesPut.{length-frame}
 use Rattle.cable_scan.specs.Scan.{agreed, differs, lineNext, ends, scanned, scanOn}
 use Rattle.cable_judge.specs.declared.answers.Feeding.the-variants as Feeding
 use Rattle.cable_judge.specs.Judge.{toldCount, toldSize, toldData, isAwaited, fitsOut, accepted, outcome, verdict}

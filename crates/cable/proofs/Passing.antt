@@ -10,8 +10,8 @@ use Rattle.lists.specs.Lists.{pick}
 use Rattle.cable_crc.specs.Crc.{crc32}
 use Rattle.text.specs.Digits.{char0, charA, digit, digits}
 use Rattle.text.specs.Decimal.{decimal}
-use Rattle.text.specs.Hex.{hexWord, hexPairs}
-use Rattle.cable_send.specs.Frame.{frameKey, ofKey, dataKey, checkKey, lineFeed, lineOf, checked, frame}
+use Rattle.text_hex.specs.Hex.{hexWord, hexPairs}
+use Rattle.cable_frame.specs.Frame.{frameKey, ofKey, dataKey, checkKey, lineFeed, lineOf, checked, frame}
 use Rattle.cable_scan.specs.Scan.{agreed, differs, stretchesOn}
 use Rattle.cable_scan.specs.Lines.{quiet}
 use Rattle.cable_scan.proofs.Scans.{quiet-append, quiet-first, quiet-rest}

@@ -10,8 +10,8 @@ use lib.Pow.{areBytes}
 use borrow.Author.Tests.{lt-ltb, le-leb, leb-true, ne-eqb, eqb-true}
 use Rattle.lists.specs.Lists.{pick, over, Exactly}
 use Rattle.lists.proofs.Same.{same-equal, and-left, and-right}
-use Rattle.text.specs.Hex.{pairValue, bytesOf}
-use Rattle.cable_send.specs.Frame.{frame, frameSize}
+use Rattle.text_hex.specs.Hex.{pairValue, bytesOf}
+use Rattle.cable_frame.specs.Frame.{frame, frameSize}
 use Rattle.cable_judge.specs.declared.answers.Feeding.{Feeding}
 use Rattle.cable_judge.specs.declared.answers.Feeding.the-variants as Feeding
 use Rattle.cable_judge.specs.Judge.{toldCount, toldSize, toldData, isAwaited, fitsOut, accepted, Outcome, outcome, verdict}

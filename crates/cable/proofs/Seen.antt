@@ -14,15 +14,16 @@ use Rattle.lists.proofs.Same.{same-self}
 use Rattle.cable_crc.specs.Crc.{crc32}
 use Rattle.text.specs.Digits.{span}
 use Rattle.text.specs.Decimal.{width, decimal}
-use Rattle.text.specs.Hex.{hexWord, hexPairs}
+use Rattle.text_hex.specs.Hex.{hexWord, hexPairs}
 use Rattle.text.proofs.Written.{length-digits, digits-all}
 use Rattle.text.proofs.DigitTurns.{span-digits}
 use Rattle.text.proofs.Decimals.{decimal-read}
-use Rattle.text.proofs.Pairs.{length-pairs, pairs-read}
-use Rattle.cable_send.specs.Frame.{frameKey, ofKey, dataKey, checkKey, lineFeed, lineOf, checked, frame, frameSize, mostFrames}
-use Rattle.cable_send.proofs.LinesPut.{length-line, length-frame}
+use Rattle.text_hex.proofs.Pairs.{length-pairs, pairs-read}
+use Rattle.cable_frame.specs.Frame.{frameKey, ofKey, dataKey, checkKey, lineFeed, lineOf, checked, frame, frameSize, mostFrames}
+use Rattle.cable_frame.proofs.LinesPut.{length-line, length-frame}
 use Rattle.cable_judge.specs.declared.answers.Feeding.the-variants as Feeding
-use Rattle.cable_judge.specs.Judge.{countFrom, dataFrom, toldCount, toldSize, toldData, agrees, rightSize, isFrame, fitsOut, outcome, verdict}
+use Rattle.cable_compare.specs.Compare.{countFrom, dataFrom}
+use Rattle.cable_judge.specs.Judge.{toldCount, toldSize, toldData, agrees, rightSize, isFrame, fitsOut, outcome, verdict}
 
 module _ (n m : ℕ) (d : List ℕ) where
   check : List ℕ

@@ -5,7 +5,7 @@ use mathlib.Core.Bool.{true}
 use Prim.Native.Nat.{ℕ, _+_, _*_, _≤_, _<_}
 use lib.ListN.{length}
 use lib.Pow.{areBytes}
-use Rattle.cable_send.specs.Frame.{frameSize, mostFrames, frame}
+use Rattle.cable_frame.specs.Frame.{frameSize, mostFrames, frame}
 use Rattle.cable_judge.specs.Judge.{agrees, rightSize}
 
 -- s is frame n of m with the data d, while n is awaited and the first accepted count is c (0: none yet)

@@ -5,7 +5,7 @@ use mathlib.Core.List.{List, [], _∷_}
 use mathlib.Core.Bool.{Bool, true, _&&_}
 use lib.Dec.{leb}
 use lib.ListN.{length, take, drop, replicate}
-use Rattle.cable_send.specs.Frame.{frameSize}
+use Rattle.cable_frame.specs.Frame.{frameSize}
 use Rattle.cable_judge.specs.Judge.{verdict}
 use Rattle.cable_judge.specs.declared.answers.Feeding.{Feeding}
 use Rattle.cable_judge.specs.declared.answers.Feeding.the-variants as Feeding

@@ -6,7 +6,7 @@ use native.Mathlib.Omega.{arith}
 use lib.ListN.{length, drop, getD, drop-of-length-le}
 use Rattle.lists.proofs.Runs.{drop-first}
 use Rattle.cable_crc.specs.Crc.{byteDivided, divided}
-use Rattle.text.specs.Hex.{pairValue, bytesOf}
+use Rattle.text_hex.specs.Hex.{pairValue, bytesOf}
 
 module _ (r i : ℕ) (l : List ℕ) where
   pub divide-turn : i * 2 + 1 < length l

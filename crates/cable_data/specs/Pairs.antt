@@ -4,7 +4,7 @@ use mathlib.Core.List.{List}
 use mathlib.Core.Bool.{Bool}
 use Rattle.cable_crc.specs.Crc.{divided}
 use Rattle.text.specs.Digits.{allDigits}
-use Rattle.text.specs.Hex.{bytesOf}
+use Rattle.text_hex.specs.Hex.{bytesOf}
 use Rattle.cable_data.specs.declared.Pairs.{Pairs}
 
 -- what pairs give: whether every character is a digit, and the remainder after their bytes

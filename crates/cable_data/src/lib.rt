@@ -1,17 +1,17 @@
 // A frame's data, read and divided in one pass: while a byte waits for the remainder of the one before, the next one's digits are looked up.
 use cable_crc::next;
 use cable_crc::remainders;
-use text::hex::BASE;
-use text::hex::CHARACTERS;
-use text::hex::pair_of;
-use text::hex::value_by;
-use text::hex::values;
+use text_hex::BASE;
+use text_hex::CHARACTERS;
+use text_hex::pair_of;
+use text_hex::value_by;
+use text_hex::values;
 ghost use mathlib.Core.Path.{_≡_};
 ghost use Prim.Native.Nat.{_*_, _%_, _≤_};
 ghost use lib.ListN.{length};
 ghost use Rattle.lists.specs.Lists.{over};
 ghost use Rattle.cable_crc.specs.Crc.{RightTable};
-ghost use Rattle.text.specs.Hex.{bytesOf, RightValues};
+ghost use Rattle.text_hex.specs.Hex.{bytesOf, RightValues};
 ghost use Rattle.cable_data.specs.Pairs.{pairsOf};
 
 // Whether every character is a hex digit, and the remainder after the bytes.

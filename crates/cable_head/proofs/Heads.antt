@@ -12,7 +12,7 @@ use Rattle.lists.proofs.Overs.{over-then, over-part}
 use Rattle.lists.proofs.Whole.{over-front}
 use Rattle.big_endian.specs.BigEndian.{bigEndian}
 use Rattle.big_endian.proofs.Laws.{length-big}
-use Rattle.cable_send.proofs.LinesPut.{four-put, take-least}
+use Rattle.cable_frame.proofs.LinesPut.{four-put, take-least}
 use Rattle.cable_head.specs.Feed.{numberSize, heldAt, heldSize, headNeed, numberAt, awaitedAt, countAt, lenOf, heldOf, numbers, headWith, stretchWith, headOn}
 
 -- ---- numbers

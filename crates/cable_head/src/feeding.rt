@@ -14,7 +14,7 @@ use cable_judge::answers::Feeding;
 use cable_judge::settling::Settled;
 use cable_judge::settling::settle;
 use cable_scan::scan;
-use memory::least;
+use memory_copy::least;
 ghost use mathlib.Core.Path.{_≡_};
 ghost use Prim.Native.Nat.{_≤_};
 ghost use lib.ListN.{length};
@@ -30,8 +30,8 @@ fn answer_joined(head: &[u8], t: &[u8], awaited: u64, count: u64, out: &mut [u8]
     let len = len_of(head);
     let more = least(HELD - len, t.len());
     let mut whole = [0u8; HELD];
-    memory::bytes::copy(&mut whole, 0, &head[HELD_AT..HELD_AT + len]);
-    memory::bytes::copy(&mut whole, len, &t[..more]);
+    memory_copy::copy(&mut whole, 0, &head[HELD_AT..HELD_AT + len]);
+    memory_copy::copy(&mut whole, len, &t[..more]);
     settle(awaited, count, &whole[..len + more], out)
 }
 

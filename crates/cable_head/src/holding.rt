@@ -1,5 +1,5 @@
 // The head's bytes: four numbers, then the text that is held of the stretch under way.
-use memory::least;
+use memory_copy::least;
 ghost use mathlib.Core.Path.{_≡_};
 ghost use mathlib.Core.List.{[]};
 ghost use Prim.Native.Nat.{_+_, _≤_};
@@ -61,7 +61,7 @@ fn keep(head: &mut [u8], t: &[u8]) -> usize
 {
     let len = len_of(head);
     let more = least(HELD - len, t.len());
-    memory::bytes::copy(head, HELD_AT + len, &t[..more]);
+    memory_copy::copy(head, HELD_AT + len, &t[..more]);
     len + more
 }
 

@@ -11,8 +11,9 @@ use Rattle.lists.proofs.Runs.{part-rest}
 use Rattle.text.proofs.DigitTurns.{span-most}
 use Rattle.text.specs.Digits.{span}
 use Rattle.text.specs.Decimal.{width, readNumber}
-use Rattle.cable_send.specs.Frame.{mostFrames}
-use Rattle.cable_judge.specs.Judge.{beforeCount, behindData, countFrom, dataFrom, orNone, toldCount, toldSize, agrees, rightSize}
+use Rattle.cable_frame.specs.Frame.{mostFrames}
+use Rattle.cable_compare.specs.Compare.{beforeCount, behindData, countFrom, dataFrom}
+use Rattle.cable_judge.specs.Judge.{orNone, toldCount, toldSize, agrees, rightSize}
 use Rattle.cable_judge.specs.Judged.{judgedAs, notJudged, weighed}
 
 -- ---- the count

@@ -12,10 +12,11 @@ use Rattle.lists.proofs.Runs.{length-part}
 use Rattle.lists.proofs.Same.{and-left, and-right}
 use Rattle.cable_judge.specs.declared.answers.Feeding.the-variants as Feeding
 use Rattle.cable_judge.specs.declared.judging.Judged.{Judged}
-use Rattle.text.proofs.Pairs.{length-bytes}
-use Rattle.cable_send.specs.Frame.{frameSize, mostFrames, frame}
-use Rattle.cable_judge.specs.Judge.{behindData, dataFrom, toldCount, toldSize, toldData, agrees, rightSize, isFrame, isAwaited, outcome, verdict}
-use Rattle.cable_judge.specs.Judged.{notJudged, tells, told, weighed, Compares, Judges}
+use Rattle.text_hex.proofs.Pairs.{length-bytes}
+use Rattle.cable_frame.specs.Frame.{frameSize, mostFrames, frame}
+use Rattle.cable_compare.specs.Compare.{behindData, dataFrom, Compares}
+use Rattle.cable_judge.specs.Judge.{toldCount, toldSize, toldData, agrees, rightSize, isFrame, isAwaited, outcome, verdict}
+use Rattle.cable_judge.specs.Judged.{notJudged, tells, told, weighed, Judges}
 
 -- what right count and size say in numbers
 pub record Told (n m count k : ℕ) (s : List ℕ) : Type 0 where

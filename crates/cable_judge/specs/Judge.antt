@@ -7,30 +7,14 @@ use lib.Dec.{eqb, leb, ltb}
 use lib.ListN.{length, take, drop}
 use Rattle.lists.specs.Lists.{pick, part, over, holds, sameList}
 use Rattle.text.specs.Digits.{span}
-use Rattle.text.specs.Decimal.{width, readNumber}
-use Rattle.text.specs.Hex.{bytesOf}
+use Rattle.text.specs.Decimal.{readNumber}
+use Rattle.text_hex.specs.Hex.{bytesOf}
 use Rattle.text.specs.declared.decimal.Number.{Number}
 use Rattle.text.specs.declared.decimal.Number.the-variants as Number
-use Rattle.cable_send.specs.Frame.{frame, frameSize, mostFrames}
+use Rattle.cable_frame.specs.Frame.{frame, frameSize, mostFrames}
+use Rattle.cable_compare.specs.Compare.{behindData, countFrom, dataFrom}
 use Rattle.cable_judge.specs.declared.answers.Feeding.{Feeding}
 use Rattle.cable_judge.specs.declared.answers.Feeding.the-variants as Feeding
-
--- how many characters stand before the count besides the number, between the count and the data, and behind the data
-abbrev pub beforeCount : ℕ
-beforeCount = 10
-
-abbrev pub beforeData : ℕ
-beforeData = 6
-
-abbrev pub behindData : ℕ
-behindData = 16
-
--- where the count stands in frame n, and where the data stand in frame n of m
-abbrev pub countFrom : ℕ → ℕ
-countFrom n = width n + beforeCount
-
-abbrev pub dataFrom : ℕ → ℕ → ℕ
-dataFrom n m = countFrom n + width m + beforeData
 
 abbrev pub orNone : Number → ℕ
 orNone (Number.Is m) = m

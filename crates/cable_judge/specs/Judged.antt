@@ -1,16 +1,13 @@
 -- docs/RULES.md, 13.5: a stretch judged in steps: what it tells, then whether it is that frame's text.
-use Prim.Native.Nat.{ℕ, _+_, _*_}
+use Prim.Native.Nat.{ℕ}
 use mathlib.Core.Path.{_≡_}
-use mathlib.Core.List.{List, [], _∷_, _++_}
+use mathlib.Core.List.{List, [], _∷_}
 use mathlib.Core.Bool.{Bool, true, false}
-use lib.Dec.{eqb, leb, ltb}
+use lib.Dec.{leb, ltb}
 use lib.ListN.{take}
-use Rattle.lists.specs.Lists.{pick, part, holds, sameList}
-use Rattle.cable_crc.specs.Crc.{crc32}
-use Rattle.text.specs.Decimal.{decimal}
-use Rattle.text.specs.Hex.{hexWord, bytesOf}
-use Rattle.cable_send.specs.Frame.{frameKey, ofKey, dataKey, checkKey, lineFeed, lineOf, checked, frame, mostFrames}
-use Rattle.cable_judge.specs.Judge.{Outcome, dataFrom, toldCount, toldSize, toldData, agrees, rightSize, isAwaited}
+use Rattle.lists.specs.Lists.{pick, holds}
+use Rattle.cable_frame.specs.Frame.{mostFrames}
+use Rattle.cable_judge.specs.Judge.{Outcome, toldCount, toldSize, toldData, agrees, rightSize, isAwaited}
 use Rattle.cable_judge.specs.declared.answers.Feeding.{Feeding}
 use Rattle.cable_judge.specs.declared.judging.Judged.{Judged}
 use Rattle.cable_judge.specs.declared.settling.Settled.{Settled}
@@ -30,25 +27,6 @@ told n s = judgedAs true (toldCount n s) (toldSize n (toldCount n s) s)
 
 unfoldable pub weighed : ℕ → ℕ → List ℕ → Judged
 weighed n count s = pick (tells n (toldCount n s) count (toldSize n (toldCount n s) s)) (told n s) notJudged
-
--- what stands before the data in frame n of m, and what stands behind the data d
-unfoldable pub frontOf : ℕ → ℕ → List ℕ
-frontOf n m = lineOf frameKey (decimal n) ++ (lineOf ofKey (decimal m) ++ dataKey)
-
-unfoldable pub behindWith : ℕ → List ℕ
-behindWith check = lineFeed ∷ lineOf checkKey (hexWord check)
-
-abbrev pub behindOf : ℕ → ℕ → List ℕ → List ℕ
-behindOf n m d = behindWith (crc32 (checked n m d))
-
--- the k bytes of data that stand in s if it is frame n of m
-abbrev pub dataOf : ℕ → ℕ → ℕ → List ℕ → List ℕ
-dataOf n m k s = bytesOf (part (dataFrom n m) (dataFrom n m + k * 2) s)
-
--- r says whether s is frame n of m with k bytes of data; if so they stand at the front of body
-pub record Compares (n m k : ℕ) (s : List ℕ) (r : Bool) (body : List ℕ) : Type 0 where
-  pub same : r ≡ sameList eqb s (frame n m (dataOf n m k s))
-  pub bytes : r ≡ true → take k body ≡ dataOf n m k s
 
 -- r says whether s is the awaited frame, and then what it tells; if so its data stand at the front of body
 pub record Judges (n count : ℕ) (s : List ℕ) (r : Judged) (body : List ℕ) : Type 0 where

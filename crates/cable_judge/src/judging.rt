@@ -1,30 +1,17 @@
-// A whole stretch judged: whether it is the awaited frame as sending writes it. What it tells is read; then its lines are compared with the ones that
-// sending writes, but for the data's: their digits are only looked at as they are read.
-use cable_data::read_pairs;
-use cable_send::framing::check_begun;
-use cable_send::lines::put_check;
-use cable_send::lines::put_number;
+// A whole stretch judged: whether it is the awaited frame as sending writes it. What it tells is read; then it is compared with that frame.
+use cable_compare::BEFORE_COUNT;
+use cable_compare::BEHIND_DATA;
+use cable_compare::data_from;
+use cable_compare::is_text;
 use cable_send::sending::FRAME;
 use cable_send::sending::MOST_FRAMES;
 use text::decimal::Number;
 ghost use mathlib.Core.Path.{_≡_};
-ghost use Prim.Native.Nat.{_+_, _*_, _≤_, _<_};
-ghost use lib.Dec.{eqb};
+ghost use Prim.Native.Nat.{_≤_, _<_};
 ghost use lib.ListN.{length};
-ghost use Rattle.lists.specs.Lists.{sameList};
-ghost use Rattle.cable_send.specs.Frame.{frameSize};
-ghost use Rattle.cable_judge.specs.Judge.{behindData, dataFrom, orNone, toldCount, toldSize, agrees, rightSize};
-ghost use Rattle.cable_judge.specs.Judged.{frontOf, behindWith, notJudged, weighed, Compares, Judges};
-
-// How many characters stand before the count besides the number, between the count and the data, and behind the data.
-const BEFORE_COUNT: usize = 10;
-
-const BEFORE_DATA: usize = 6;
-
-const BEHIND_DATA: usize = 16;
-
-// How many characters stand before the data at most.
-const FRONT: usize = 36;
+ghost use Rattle.cable_frame.specs.Frame.{frameSize};
+ghost use Rattle.cable_judge.specs.Judge.{orNone, toldCount, toldSize, agrees, rightSize};
+ghost use Rattle.cable_judge.specs.Judged.{notJudged, weighed, Judges};
 
 // Whether a stretch is the awaited frame; if so the count it tells and how many bytes of data.
 pub struct Judged {
@@ -51,12 +38,6 @@ fn or_none(told: Number) -> u32
         Number::Is(m) => m,
         Number::Not => 0,
     }
-}
-
-fn data_from(n: u32, m: u32) -> usize
-    ensures { λ r. ⌜ r ≡ dataFrom n m ⌝ }
-{
-    text::decimal::width(n) + BEFORE_COUNT + text::decimal::width(m) + BEFORE_DATA
 }
 
 fn told_size(n: u32, m: u32, s: &[u8]) -> usize
@@ -128,46 +109,6 @@ fn weigh(n: u32, count: u64, s: &[u8]) -> Judged
         count: told,
         size,
     }
-}
-
-// Whether what stands before the data in frame n of m is what stands in front of a stretch.
-fn is_front(front: &[u8], n: u32, m: u32) -> bool
-    ensures { λ r. ⌜ r ≡ sameList eqb (now (front .entry)) (frontOf n m) ⌝ }
-{
-    let mut again = [0u8; FRONT];
-    let a = put_number(&mut again, 0, b"frame=", n);
-    let b = put_number(&mut again, a, b"of=", m);
-    let key = b"data=";
-    memory::bytes::copy(&mut again, b, key);
-    let end = b + key.len();
-    memory::bytes::equal(front, &again[..end])
-}
-
-// Whether a line feed and the check's line are what stands behind the data in a stretch.
-fn is_behind(behind: &[u8], check: u32) -> bool
-    ensures { λ r. ⌜ r ≡ sameList eqb (now (behind .entry)) (behindWith check) ⌝ }
-{
-    let mut again = [0u8; BEHIND_DATA];
-    again[0] = b'\n';
-    put_check(&mut again, 1, check);
-    memory::bytes::equal(behind, &again)
-}
-
-// Whether a stretch is frame n of m with its data of `size` bytes, as sending writes it; if so the data go to the front of `body`.
-fn is_text(s: &[u8], n: u32, m: u32, size: usize, body: &mut [u8]) -> bool
-    requires { ⌜ (dataFrom n m + size * 2 + behindData ≤ length (now s)) × (size ≤ frameSize) × (frameSize ≤ length (now body)) ⌝ }
-    ensures { λ r. ⌜ Compares n m size (now (s .entry)) r (now (body .exit)) ⌝ }
-{
-    let at = data_from(n, m);
-    let end = at + size * 2;
-    if !is_front(&s[..at], n, m) {
-        return false;
-    }
-    let p = read_pairs(check_begun(n, m), body, &s[at..end]);
-    if !p.all {
-        return false;
-    }
-    is_behind(&s[end..], cable_crc::finish(p.remainder))
 }
 
 fn judge_as(n: u32, count: u64, s: &[u8], body: &mut [u8]) -> Judged

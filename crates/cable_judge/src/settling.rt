@@ -38,7 +38,7 @@ pub fn settle(n: u64, count: u64, s: &[u8], out: &mut [u8]) -> Settled
     if out.len() < at + size {
         return refused(Feeding::OutputShort, n, count);
     }
-    memory::bytes::copy(out, at, &body[..size]);
+    memory_copy::copy(out, at, &body[..size]);
     Settled {
         answer: Feeding::Accepted(size),
         awaited: n + 1,

@@ -12,7 +12,7 @@ use Rattle.lists.specs.Lists.{part}
 use Rattle.lists.proofs.Runs.{drop-first, length-part, part-first, part-last, part-drop}
 use Rattle.lists.proofs.Frames.{part-join}
 use Rattle.lists.proofs.Same.{and-left, and-right}
-use Rattle.cable_send.specs.Frame.{lineFeed}
+use Rattle.cable_frame.specs.Frame.{lineFeed}
 use Rattle.cable_scan.specs.Scan.{agreed, lineNext, lineOn, scanned, scanOn}
 use Rattle.cable_scan.specs.Lines.{quiet, NextFeed}
 

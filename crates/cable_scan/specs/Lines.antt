@@ -6,7 +6,7 @@ use mathlib.Core.Bool.{Bool, true, _&&_, not}
 use lib.Dec.{eqb}
 use lib.ListN.{length, getD}
 use Rattle.lists.specs.Lists.{part}
-use Rattle.cable_send.specs.Frame.{lineFeed}
+use Rattle.cable_frame.specs.Frame.{lineFeed}
 
 -- no line feed
 unfoldable pub quiet : List ℕ → Bool

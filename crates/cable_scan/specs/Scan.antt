@@ -5,7 +5,7 @@ use mathlib.Core.Bool.{Bool, true, false, _&&_}
 use lib.Dec.{eqb, leb}
 use lib.ListN.{getD}
 use Rattle.lists.specs.Lists.{pick}
-use Rattle.cable_send.specs.Frame.{checkKey, lineFeed}
+use Rattle.cable_frame.specs.Frame.{checkKey, lineFeed}
 use Rattle.cable_scan.specs.declared.Scanned.{Scanned}
 
 -- how far a line agrees with `check=`: as many characters as came, all of them, or that it differs

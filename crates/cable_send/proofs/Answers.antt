@@ -6,7 +6,7 @@ use lib.ListN.{length}
 use borrow.Author.Tests.{le-leb, lt-leb}
 use Rattle.answer.specs.declared.Refusal.the-variants as Refusal
 use Rattle.lists.specs.Lists.{over}
-use Rattle.cable_send.specs.Frame.{mostBytes, sent}
+use Rattle.cable_frame.specs.Frame.{mostBytes, sent}
 use Rattle.cable_send.specs.Send.{sendOf, sendOut}
 use Rattle.cable_send.specs.declared.sending.Sending.the-variants as Sending
 

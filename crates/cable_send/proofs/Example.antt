@@ -8,8 +8,8 @@ use Rattle.cable_crc.proofs.Division.{quickBits}
 use Rattle.cable_crc.proofs.Checked.{quickDivided, quickCrc, quick-crc}
 use Rattle.text.specs.Digits.{digits}
 use Rattle.text.specs.Decimal.{widthOf}
-use Rattle.text.specs.Hex.{hexPairs}
-use Rattle.cable_send.specs.Frame.{checked, frame, framesFrom, sent}
+use Rattle.text_hex.specs.Hex.{hexPairs}
+use Rattle.cable_frame.specs.Frame.{checked, frame, framesFrom, sent}
 
 one-check : crc32 (checked 0 1 (97 ∷ [])) ≡ 0xc5a77421
 unfolding bigEndian quickCrc quickDivided quickBits quickXor

@@ -1,4 +1,2 @@
-pub mod LinesPut
-pub mod FramesPut
 pub mod Answers
 pub mod Example

@@ -6,7 +6,7 @@ use lib.Dec.{leb}
 use lib.ListN.{length}
 use Rattle.answer.specs.declared.Refusal.the-variants as Refusal
 use Rattle.lists.specs.Lists.{pick, over}
-use Rattle.cable_send.specs.Frame.{mostBytes, sent}
+use Rattle.cable_frame.specs.Frame.{mostBytes, sent}
 use Rattle.cable_send.specs.declared.sending.Sending.{Sending}
 use Rattle.cable_send.specs.declared.sending.Sending.the-variants as Sending
 

@@ -1,4 +1,2 @@
-// Tables as frames of text, in lent slices: a frame's lines, a frame, and a whole table sent.
-pub mod framing;
-pub mod lines;
+// A whole table sent as frames of text, in lent slices.
 pub mod sending;

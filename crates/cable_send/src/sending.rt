@@ -1,13 +1,13 @@
 // A whole table sent as text.
-use crate::framing::length_of;
-use crate::framing::put_frame;
 use answer::Refusal;
-use memory::least;
+use cable_frame::framing::length_of;
+use cable_frame::framing::put_frame;
+use memory_copy::least;
 ghost use mathlib.Core.Path.{_≡_};
 ghost use Prim.Native.Nat.{_≤_};
 ghost use lib.ListN.{length};
 ghost use Rattle.lists.specs.Lists.{over};
-ghost use Rattle.cable_send.specs.Frame.{frameCount, mostBytes, sent};
+ghost use Rattle.cable_frame.specs.Frame.{frameCount, mostBytes, sent};
 ghost use Rattle.cable_send.specs.Send.{sendOf, sendOut};
 
 // How many bytes of a table a frame holds, how many frames there are at most, and how many bytes these hold.

@@ -6,7 +6,7 @@ use native.Mathlib.Omega.{arith}
 use lib.ListN.{length, take, drop}
 use Rattle.lists.specs.Lists.{over}
 use Rattle.lists.proofs.Whole.{over-front}
-use Rattle.text.specs.Hex.{bytesOf}
+use Rattle.text_hex.specs.Hex.{bytesOf}
 
 pairs-long : (v : List ℕ) → length (bytesOf v) ≡ length v / 2
 unfolding bytesOf

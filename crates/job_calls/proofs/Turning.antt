@@ -11,7 +11,7 @@ use borrow.Author.Tests.{eq-eqb, ne-eqb}
 use Rattle.job_items.specs.Item.{item, isPiece, pairs}
 use Rattle.job_items.specs.declared.Item.{Item}
 use Rattle.job_items.specs.declared.Item.the-variants as Item
-use Rattle.text.specs.Hex.{bytesOf}
+use Rattle.text_hex.specs.Hex.{bytesOf}
 use Rattle.model.specs.Told.{Told}
 use Rattle.model.specs.Session.{Session, openCall, putCall, linkCall, closeCall, Left, step}
 use Rattle.layout.specs.Sound.{sound}

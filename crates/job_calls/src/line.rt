@@ -19,7 +19,7 @@ ghost use Prim.Native.Nat.{ℕ, _+_, _*_, _≤_, _<_};
 ghost use lib.ListN.{length, take};
 ghost use Rattle.layout.specs.Sound.{sound};
 ghost use Rattle.layout.specs.Decode.{decode};
-ghost use Rattle.text.specs.Hex.{bytesOf};
+ghost use Rattle.text_hex.specs.Hex.{bytesOf};
 ghost use Rattle.job_items.specs.Item.{pieceLeast};
 ghost use Rattle.job_rules.specs.Job.{childAt, turn, pieceDue, writing, pieceTurn, linkTurn, endTurn};
 ghost use Rattle.job_calls.specs.Leads.{Leads, isOn, countOf};

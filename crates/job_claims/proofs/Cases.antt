@@ -6,7 +6,7 @@ use mathlib.Core.List.{List, [], _∷_, _++_, map}
 use Rattle.lists.specs.Lists.{sameList, total, firstThat, holds}
 use Rattle.text.specs.Digits.{allDigits, readOn}
 use Rattle.text.specs.Decimal.{padded}
-use Rattle.text.specs.Hex.{bytesOf}
+use Rattle.text_hex.specs.Hex.{bytesOf}
 use Rattle.model_orders.specs.Object.{anyHopeless}
 use Rattle.model.specs.Judge.{verdict}
 use Rattle.model.specs.Session.{step}

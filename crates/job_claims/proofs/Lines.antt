@@ -6,7 +6,7 @@ use mathlib.Core.Bool.{Bool, true, false}
 use lib.Dec.{eqb}
 use lib.ListN.{length}
 use Rattle.lists.specs.Lists.{pick}
-use Rattle.text.specs.Hex.{bytesOf}
+use Rattle.text_hex.specs.Hex.{bytesOf}
 use Rattle.model.specs.Judge.{Limits}
 use Rattle.model.specs.Told.{Told}
 use Rattle.model.specs.Session.{Session, started, putCall, closeCall, step}

@@ -10,7 +10,7 @@ use lib.ListN.{length, replicate, length-append, length-replicate}
 use Rattle.lists.specs.Lists.{pick, total, holds}
 use Rattle.lists.proofs.Elements.{total-append}
 use Rattle.lists.proofs.Same.{and-left, and-right}
-use Rattle.text.specs.Hex.{bytesOf}
+use Rattle.text_hex.specs.Hex.{bytesOf}
 use Rattle.text.specs.declared.decimal.Number.{Number}
 use Rattle.text.specs.declared.decimal.Number.the-variants as Number
 use Rattle.answer.specs.Number.{number}

@@ -14,7 +14,7 @@ use Rattle.model.specs.Judge.{verdict}
 use Rattle.model.specs.Session.{step, pack}
 use Rattle.text.specs.Digits.{allDigits, readOn}
 use Rattle.text.specs.Decimal.{padded}
-use Rattle.text.specs.Hex.{bytesOf}
+use Rattle.text_hex.specs.Hex.{bytesOf}
 use Rattle.job_lines.specs.Lines.{inFront, cut}
 use Rattle.job_items.specs.Item.{codes, startsWith, limit, pieceItem, linkItem, endItem, item}
 use Rattle.job_rules.specs.Job.{turn, run, job}

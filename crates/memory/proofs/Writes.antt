@@ -3,9 +3,9 @@ use mathlib.Core.Path.{_≡_, _∙_}
 use Prim.Native.Nat.{ℕ, suc, _+_, _-_, _≤_, _<_}
 use mathlib.Core.List.{List}
 use native.Mathlib.Omega.{arith}
-use lib.ListN.{length, drop, getD, set, replicate, drop-of-length-le}
+use lib.ListN.{length, getD, set, replicate}
 use Rattle.lists.specs.Lists.{part, over}
-use Rattle.lists.proofs.Runs.{drop-first, length-part, part-last, part-set, over-none, over-first, over-last}
+use Rattle.lists.proofs.Runs.{length-part, part-last, part-set, over-none, over-first, over-last}
 
 -- zeros from i up to e are left
 module _ (e i : ℕ) (s : List ℕ) where
@@ -15,16 +15,6 @@ module _ (e i : ℕ) (s : List ℕ) where
 
   pub clear-all : e ≤ i → over i (replicate (e - i) 0) s ≡ s
   clear-all h = let n : e - i ≡ 0 = omega arith in rw n (over-none i s)
-
--- of vs, written from a on, the numbers from i on are left
-module _ (a : ℕ) (vs : List ℕ) (i : ℕ) (s : List ℕ) where
-  pub copy-next : i < length vs → a + length vs ≤ length s → over (a + (i + 1)) (drop (i + 1) vs) (set s (a + i) (getD vs i 0)) ≡ over (a + i) (drop i vs) s
-  copy-next h k =
-      let n : a + (i + 1) ≡ a + i + 1 = omega arith in
-      rw (n, drop-first i vs) (over-first (a + i) (getD vs i 0) (drop (i + 1) vs) s (omega arith))
-
-  pub copy-all : length vs ≤ i → over (a + i) (drop i vs) s ≡ s
-  copy-all h = rw (drop-of-length-le vs {i = i} h) (over-none (a + i) s)
 
 -- the first i numbers from a on are left to move up to b
 module _ (a b i : ℕ) (s : List ℕ) where

@@ -16,7 +16,7 @@ use Rattle.work.specs.Views.{keysIn, keyIn, distancesIn, spacesIn}
 use Rattle.work.specs.declared.Areas.{Areas}
 use Rattle.order_graph.specs.Graph.{mostNodes}
 use Rattle.order_survey.specs.Survey.{farAway}
-use Rattle.order_place.specs.Place.{mostKey}
+use Rattle.order_ready.specs.Ready.{mostKey}
 use Rattle.order.specs.Try.{keyBy, Trying, Keying, Keyed}
 use Rattle.order.specs.declared.By.the-variants as By
 

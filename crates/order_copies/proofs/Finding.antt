@@ -14,7 +14,7 @@ use Rattle.order_graph.specs.Graph.{linkOf, linkCount, linksAfter, AtLink, Fiel
 use Rattle.order_graph.proofs.Links.{links-in, links-read, links-none}
 use Rattle.order_copies.specs.Copy.{FieldAt, AtField, childIn}
 use Rattle.order_copies.specs.Steps.{LinkFound}
-use Rattle.order_copies.proofs.Alike.{found-child}
+use Rattle.order_copies.proofs.Firsts.{found-child}
 
 -- the field is that of a link from t on
 pub record Seeking (a : Areas) (p at t : ℕ) (w : List ℕ) : Type 0 where

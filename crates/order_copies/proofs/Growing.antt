@@ -19,8 +19,10 @@ use Rattle.work.specs.declared.Areas.{Areas}
 use Rattle.order_graph.specs.Graph.{graphIn, graphOn, linksAt, linkCount, Stands, FieldOf, Taken, Parted, Owned}
 use Rattle.order_graph.proofs.Links.{size-in, links-in, front-kept, stands-kept}
 use Rattle.order_copies.specs.Copy.{childIn, CopyingChild, ChildCopied}
-use Rattle.order_copies.specs.Steps.{LinkFound, NodeAs, Appending, NodeAppended, Leading, LinkLed, Noting, CopyNoted, CountingCopy, CopyCounted, Inserting, Inserted}
-use Rattle.order_copies.proofs.Alike.{place, as-links, after-all, length-from, links-led, found-child}
+use Rattle.order_grow.specs.Grow.{NodeAs, Appending, NodeAppended, Leading, LinkLed}
+use Rattle.order_copies.specs.Steps.{LinkFound, Noting, CopyNoted, CountingCopy, CopyCounted, Inserting, Inserted}
+use Rattle.order_grow.proofs.Alike.{as-links, after-all, length-from}
+use Rattle.order_copies.proofs.Firsts.{place, links-led, found-child}
 use Rattle.order_copies.proofs.Noting.{noted-origin, noted-others, noted-owned}
 
 module _ {a : Areas} {n nodes links r p at t : ℕ} {w : List ℕ} (s : CopyingChild a n nodes links r p at w) (found : LinkFound a nodes p at t w)

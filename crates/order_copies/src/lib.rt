@@ -1,12 +1,12 @@
 // One copy: the child of a link copied, and that link alone led to the copy. What stands in the work memory beside the graph follows: spaces, origins,
 // the counts of incoming fields, and the order, in which the copy comes right behind its original.
 use find::find_link;
-use grow::append_node;
-use grow::lead_link;
 use note::count_copy;
 use note::note_copy;
 use note::put_behind;
 use order_graph::field_at;
+use order_grow::append_node;
+use order_grow::lead_link;
 use work::Areas;
 ghost use mathlib.Core.Path.{_≡_};
 ghost use lib.Dec.{ltb};
@@ -15,7 +15,6 @@ ghost use Rattle.work.specs.Views.{incomingIn};
 ghost use Rattle.order_copies.specs.Copy.{childIn, AtField, CopyingChild, ChildCopied};
 
 mod find;
-mod grow;
 mod note;
 
 // The copy's size, and how many links are taken with it.

@@ -17,7 +17,8 @@ use Rattle.order_graph.specs.Graph.{graphOn}
 use Rattle.order_graph.proofs.Links.{front-kept, stands-kept}
 use Rattle.order_heap.proofs.Stamped.{stamped-long}
 use Rattle.order_release.specs.Release.{Arrivals, releasedAll, arrivalsOf, Live, ReleasedAll}
-use Rattle.order_place.specs.Place.{RootInHeap, Holds, InHeap, TookLeast, Pushing, PushedAll, OrderFound}
+use Rattle.order_ready.specs.Ready.{Holds, InHeap, TookLeast, Pushing, PushedAll}
+use Rattle.order_place.specs.Place.{RootInHeap, OrderFound}
 use Rattle.order_place.proofs.Turns.{new, turn-next, turn-arrived}
 use Rattle.order_place.proofs.Starting.{keys-kept}
 use Rattle.order_place.proofs.Between.{Between, between-first, between-last}

@@ -2,7 +2,5 @@ pub mod Turns
 pub mod Starting
 pub mod Between
 pub mod Queue
-pub mod Lent
-pub mod Heaps
 pub mod Rooting
 pub mod Heaping

@@ -11,7 +11,8 @@ use Rattle.work.specs.declared.Areas.{Areas}
 use Rattle.work.specs.Views.{keyIn}
 use Rattle.order_heap.specs.Heap.{Heaped}
 use Rattle.order_heap.proofs.Stamped.{stamped-none}
-use Rattle.order_place.specs.Place.{Starting, SmallKeys, Begun, RootReady, Holds, RootInHeap, Pushing, PushedAll, OrderFound}
+use Rattle.order_ready.specs.Ready.{SmallKeys, Holds, Pushing, PushedAll}
+use Rattle.order_place.specs.Place.{Starting, Begun, RootReady, RootInHeap, OrderFound}
 use Rattle.order_place.proofs.Starting.{keys-kept, starting-kept, found-kept, begun-ready, in-arrived}
 
 heaped-none : Heaped []

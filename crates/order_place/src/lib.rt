@@ -1,14 +1,13 @@
 // The order of placing: as the nodes become ready, or by keys, where a heap has the next one.
+use order_ready::push_arrivals;
+use order_ready::take_least;
 use order_release::release_all;
-use ready::push_arrivals;
-use ready::take_least;
 use regions::copy;
 use work::Areas;
 ghost use Rattle.work.specs.Views.{keyIn};
 ghost use Rattle.order_release.specs.Release.{Arriving};
-ghost use Rattle.order_place.specs.Place.{Starting, SmallKeys, Begun, RootReady, RootInHeap, OrderFound, sameKey};
-
-mod ready;
+ghost use Rattle.order_ready.specs.Ready.{SmallKeys};
+ghost use Rattle.order_place.specs.Place.{Starting, Begun, RootReady, RootInHeap, OrderFound, sameKey};
 
 // Each node waits for its incoming fields, and the root alone has become ready.
 fn begin(work: &mut [u64], a: Areas, at: usize, n: usize, root: usize)

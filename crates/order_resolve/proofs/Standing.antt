@@ -23,7 +23,7 @@ use Rattle.order_graph.specs.Graph.{graphOn, linkCount, mostNodes, mostNodeLink
 use Rattle.order_graph.proofs.Links.{links-in, front-kept, stands-kept}
 use Rattle.order_survey.specs.Survey.{farAway, Surveyed, Distanced}
 use Rattle.order_survey.proofs.Distances.{node-links}
-use Rattle.order_copies.proofs.Alike.{after-all, length-from}
+use Rattle.order_grow.proofs.Alike.{after-all, length-from}
 use Rattle.order.specs.Try.{Trying}
 use Rattle.order.specs.declared.By.the-variants as By
 use Rattle.order_resolve.specs.Resolve.{Arranging, Distances, Spaces, bySpaces}

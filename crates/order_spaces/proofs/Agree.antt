@@ -16,7 +16,8 @@ use Rattle.model_orders.proofs.Bags.{Same, same, other, sameOr, Zero, none, som
 use Rattle.model_orders.proofs.Spots.{spot-at}
 use Rattle.model_orders.proofs.Near.{narrow-kid}
 use Rattle.model_orders.proofs.Spaces.{root-first}
-use Rattle.order_spaces.specs.Spaces.{spotsFrom, cleared, clearedAll, tied, tiedAll, ownBosses}
+use Rattle.order_spaces_near.specs.Near.{spotsFrom, cleared, clearedAll}
+use Rattle.order_spaces_join.specs.Join.{tied, tiedAll, ownBosses}
 
 -- ---- positions stored one by one
 

@@ -18,8 +18,9 @@ use Rattle.work.specs.Views.{orderIn, bossesIn, spacesIn}
 use Rattle.work.specs.declared.Areas.{Areas}
 use Rattle.order_merge.specs.Bosses.{roots}
 use Rattle.order_merge.proofs.Roots.{Rooted, rooted-settled, roots-rooted}
-use Rattle.order_spaces.specs.Spaces.{numberBy, Ordered, Bossed, Numbering, NumberedAlong}
-use Rattle.order_spaces.proofs.Frames.{ordered-behind, order-behind, node-is, node-in, order-other}
+use Rattle.order_spaces_near.specs.Near.{Ordered}
+use Rattle.order_spaces.specs.Spaces.{numberBy, Bossed, Numbering, NumberedAlong}
+use Rattle.order_spaces_near.proofs.Frames.{ordered-behind, order-behind, node-is, node-in, order-other}
 
 -- ---- the number of one position
 

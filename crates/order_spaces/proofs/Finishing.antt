@@ -23,8 +23,10 @@ use Rattle.order_graph.specs.Graph.{graphOn}
 use Rattle.order_graph.proofs.Links.{front-kept}
 use Rattle.order_merge.specs.Bosses.{roots}
 use Rattle.order_merge.proofs.Roots.{roots-settled}
-use Rattle.order_spaces.specs.Spaces.{spotsFrom, cleared, clearedAll, ownBosses, Ordered, Joining, Bossed, Marked, SetsJoined, NumberedAlong, Spacing, Spaced}
-use Rattle.order_spaces.proofs.Frames.{ordered-kept, order-kept}
+use Rattle.order_spaces_near.specs.Near.{spotsFrom, cleared, clearedAll, Ordered, Marked}
+use Rattle.order_spaces_join.specs.Join.{ownBosses, Joining, SetsJoined}
+use Rattle.order_spaces.specs.Spaces.{Bossed, NumberedAlong, Spacing, Spaced}
+use Rattle.order_spaces_near.proofs.Frames.{ordered-kept, order-kept}
 use Rattle.order_spaces.proofs.Agree.{Shows, shows-near, own-agree, labels-agree}
 
 -- ---- no stored position is past the order

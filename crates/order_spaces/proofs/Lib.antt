@@ -1,10 +1,3 @@
-pub mod Frames
-pub mod Kids
-pub mod Spotting
-pub mod Clearing
-pub mod Lent
-pub mod Tying
-pub mod Bossing
 pub mod Counting
 pub mod Agree
 pub mod Finishing

@@ -1,14 +1,11 @@
 // The spaces of a graph in the work memory, over an order of its nodes that stands there: space 0 marked, the sets outside it joined, all of them
 // numbered.
-use join::join_sets;
-use mark::mark_near;
 use number::number_sets;
+use order_spaces_join::join_sets;
+use order_spaces_near::mark_near;
 use work::Areas;
 ghost use Rattle.order_spaces.specs.Spaces.{Spacing, Spaced};
 
-mod join;
-mod kid;
-mod mark;
 mod number;
 
 // The number of each node's space, over the order of r nodes from the root. The order stands, and all behind it but these numbers.

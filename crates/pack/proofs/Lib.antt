@@ -1,1 +1,1 @@
-pub mod Works
+pub mod Clears

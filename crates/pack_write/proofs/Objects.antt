@@ -14,7 +14,7 @@ use Rattle.lists.proofs.Overs.{over-then, over-lent}
 use Rattle.regions.specs.Region.{ceiling}
 use Rattle.regions.proofs.Laws.{region-at}
 use Rattle.regions.proofs.Bounds.{ceiling-drop}
-use Rattle.memory.proofs.Steps.{over-over}
+use Rattle.memory_copy.proofs.Steps.{over-over}
 use Rattle.answer.specs.declared.ObjectId.{ObjectId}
 use Rattle.model_orders.specs.Object.{Object}
 use Rattle.model_orders.specs.Graph.{Graph, Closed}

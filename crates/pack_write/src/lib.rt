@@ -1,7 +1,7 @@
 // Table bytes from the order and the places in the work memory.
 use layout::span::closed_span;
 use layout::state::State;
-use memory::bytes::WIDE;
+use memory_copy::WIDE;
 use order_fit::node_at;
 use order_fit::offset_at;
 use order_graph::field_from;
@@ -40,7 +40,7 @@ fn write_object(part: &mut [u8], bytes: &[u8], work: &[u64], a: Areas, n: usize,
     requires { ⌜ AtNode a n i (now work) × (length (now bytes) ≤ length (now part)) × FieldsIn 0 (length (now bytes)) (graphOn a n (now work) .links i) ⌝ }
     ensures { λ _. ⌜ now (part .exit) ≡ over 0 (filled (offsetBy (placesIn a (now (work .entry))) i) (graphOn a n (now (work .entry)) .links i) (now (bytes .entry))) (now (part .entry)) ⌝ }
 {
-    memory::bytes::copy(part, 0, bytes);
+    memory_copy::copy(part, 0, bytes);
     write_fields(part, work, a, n, i);
 }
 

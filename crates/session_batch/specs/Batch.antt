@@ -17,7 +17,7 @@ use Rattle.layout.specs.Sound.{sound}
 use Rattle.steps.specs.Steps.{tallyIn}
 use Rattle.steps.specs.Runs.{StoreCall, start, open', put, link, close, drop, tally, Stores}
 use Rattle.steps.specs.Mirrored.{Step, byStores, byHistory}
-use Rattle.session_index.specs.Index.{indexNeed}
+use Rattle.session_chains.specs.Index.{indexNeed}
 use Rattle.session_batch.specs.Calls.{Said, nothing, noCall, says, said}
 
 -- ---- the work memory holds the index of the closed objects

@@ -53,7 +53,7 @@ fn same_bytes(store: &[u8], o: Runs, own: Runs, at: usize, end: usize) -> bool
     requires inside { ⌜ (o .from + o .size ≤ length (now store)) × (own .from + own .size ≤ length (now store)) × (at < end) × (end ≤ own .size) ⌝ }
     ensures { λ r. ⌜ r ≡ sameRun (now (store .entry)) (own .from) (o .from) at end ⌝ }
 {
-    memory::bytes::same(store, own.from + at, o.from + at, end - at)
+    memory_compare::bytes::same(store, own.from + at, o.from + at, end - at)
 }
 
 // Whether the words of their links from index `at` up to index `end` are.
@@ -62,7 +62,7 @@ fn same_words(records: &[u32], o: Runs, own: Runs, at: usize, end: usize) -> boo
     requires inside { ⌜ (o .at + o .words ≤ length (now records)) × (own .at + own .words ≤ length (now records)) × (at < end) × (end ≤ own .words) ⌝ }
     ensures { λ r. ⌜ r ≡ sameRun (now (records .entry)) (own .at) (o .at) at end ⌝ }
 {
-    memory::words::same(records, own.at + at, o.at + at, end - at)
+    memory_compare::words::same(records, own.at + at, o.at + at, end - at)
 }
 
 fn seek(store: &[u8], records: &[u32], objects: usize, closed: usize, own: Runs) -> ObjectId

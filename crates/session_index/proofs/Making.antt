@@ -13,9 +13,9 @@ use Rattle.layout.specs.Known.{Read}
 use Rattle.layout.specs.declared.state.State.{State}
 use Rattle.steps.proofs.Tallies.{length-closed}
 use Rattle.session_hash.specs.Hash.{hashOf}
-use Rattle.session_index.specs.Index.{indexNeed, Indexed, added, Room}
-use Rattle.session_index.proofs.Appended.{length-added}
-use Rattle.session_index.proofs.Indexes.{indexed-none, indexed-room, indexed-more}
+use Rattle.session_chains.specs.Index.{indexNeed, Indexed, added, Room}
+use Rattle.session_chains.proofs.Appended.{length-added}
+use Rattle.session_chains.proofs.Indexes.{indexed-none, indexed-room, indexed-more}
 
 -- the first i are in
 pub record Making (b w : List ℕ) (s : State) (buckets i : ℕ) (m : List ℕ) : Type 0 where

@@ -16,7 +16,7 @@ use Rattle.steps.specs.Steps.{innermostIn, twinIn}
 use Rattle.steps.proofs.Tallies.{length-closed, closed-at}
 use Rattle.session_find.proofs.Looks.{Look, look-first, look-none, look-here, look-next}
 use Rattle.session_hash.specs.Hash.{hashOf, bucketOf}
-use Rattle.session_index.specs.Index.{headAt, nextAt, hashAt, Leads, none, to, keyIn, Indexed}
+use Rattle.session_chains.specs.Index.{headAt, nextAt, hashAt, Leads, none, to, keyIn, Indexed}
 use Rattle.session_hash.proofs.Hashes.{same-hash}
 
 -- an object of another hash is another

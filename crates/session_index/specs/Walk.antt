@@ -13,7 +13,7 @@ use Rattle.session_find.specs.declared.Runs.{Runs}
 use Rattle.session_find.specs.Runs.{Ground}
 use Rattle.steps.specs.Steps.{innermostIn}
 use Rattle.session_hash.specs.Hash.{hashOf}
-use Rattle.session_index.specs.Index.{Indexed}
+use Rattle.session_chains.specs.Index.{Indexed}
 
 -- an object that lies at s
 pub record Laid (b w : List ℕ) (objects : ℕ) (s : Span) : Type 0 where

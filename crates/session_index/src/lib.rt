@@ -1,4 +1,3 @@
 // An index of the closed objects in lent words, which finds an equal one without looking at all of them.
-pub mod chains;
 pub mod look;
 pub mod same;

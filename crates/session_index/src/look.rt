@@ -1,12 +1,12 @@
 // The index of a session's closed objects, and the look for an equal one along one chain.
-use crate::chains::ENTRY_WORDS;
-use crate::chains::add;
-use crate::chains::bucket_of;
 use crate::same::same_runs;
 use answer::ObjectId;
 use layout::span::Span;
 use layout::span::closed_span;
 use layout::state::State;
+use session_chains::ENTRY_WORDS;
+use session_chains::add;
+use session_chains::bucket_of;
 use session_find::Runs;
 use session_find::runs_of;
 use session_hash::hash_of;
@@ -19,7 +19,7 @@ ghost use Rattle.layout.specs.Decode.{objectIn, closedAt, closedTo};
 ghost use Rattle.layout.specs.Known.{Read};
 ghost use Rattle.steps.specs.Steps.{innermostIn, twinIn};
 ghost use Rattle.session_hash.specs.Hash.{hashOf};
-ghost use Rattle.session_index.specs.Index.{indexNeed, Indexed};
+ghost use Rattle.session_chains.specs.Index.{indexNeed, Indexed};
 ghost use Rattle.session_index.specs.Walk.{Laid, Compared, Asked};
 
 // The hash of the object that lies at s, where `objects` is the object limit.

@@ -15,7 +15,7 @@ fn same_bytes(s: &[u8], a: usize, c: usize, n: usize) -> bool
     if n == 0 {
         return true;
     }
-    memory::bytes::same(s, a, c, n)
+    memory_compare::bytes::same(s, a, c, n)
 }
 
 // The n words.
@@ -26,7 +26,7 @@ fn same_words(s: &[u32], a: usize, c: usize, n: usize) -> bool
     if n == 0 {
         return true;
     }
-    memory::words::same(s, a, c, n)
+    memory_compare::words::same(s, a, c, n)
 }
 
 // The bytes of two objects, and the words of their links.

@@ -19,8 +19,8 @@ use Rattle.steps.specs.Steps.{CloseOut, closing, closeStep, innermostIn}
 use Rattle.steps.specs.Runs.{StoreCall, Stores, close, stepOn}
 use Rattle.steps.proofs.Tallies.{length-closed}
 use Rattle.session_hash.specs.Hash.{hashOf}
-use Rattle.session_index.specs.Index.{Indexed, added}
-use Rattle.session_index.proofs.Indexes.{indexed-room}
+use Rattle.session_chains.specs.Index.{Indexed, added}
+use Rattle.session_chains.proofs.Indexes.{indexed-room}
 use Rattle.session_indexed.proofs.Stays.{Right, still-sound, still-long, quiet, quiet-right, quiet-limit, close-limit, close-room, close-right}
 use Rattle.session_indexed.specs.Close.{Keeping, Kept, More}
 

@@ -22,8 +22,8 @@ use Rattle.steps.proofs.Tallies.{length-closed, count-decode, limits-decode}
 use Rattle.steps.proofs.Innermost.{innermost-decode}
 use Rattle.steps.proofs.Steps.{Follows, sound-drawn, step-drawn}
 use Rattle.session_hash.specs.Hash.{hashOf}
-use Rattle.session_index.specs.Index.{indexNeed, Indexed, added}
-use Rattle.session_index.proofs.Indexes.{indexed-more}
+use Rattle.session_chains.specs.Index.{indexNeed, Indexed, added}
+use Rattle.session_chains.proofs.Indexes.{indexed-more}
 
 -- the index m of what the stores hold closed
 abbrev pub Right : ℕ → List ℕ → List ℕ → List ℕ → Type 0

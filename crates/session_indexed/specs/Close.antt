@@ -9,7 +9,7 @@ use Rattle.layout.specs.Words.{closedCountAt, objectLimit, closedCount}
 use Rattle.layout.specs.Decode.{closedTo}
 use Rattle.layout.specs.Sound.{sound}
 use Rattle.steps.specs.Steps.{closing, closeStep}
-use Rattle.session_index.specs.Index.{indexNeed, Indexed, Room}
+use Rattle.session_chains.specs.Index.{indexNeed, Indexed, Room}
 
 -- sound stores, and an index of their closed objects with room for all there may be
 pub record Keeping (b w : List ℕ) (m : List ℕ) (buckets : ℕ) : Type 0 where

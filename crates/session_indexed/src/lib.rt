@@ -5,15 +5,15 @@ use layout::span::innermost;
 use layout::state::read;
 use layout::words::CLOSED_COUNT;
 use layout::words::word;
+use session_chains::add;
 use session_close::close_found;
-use session_index::chains::add;
 use session_index::look::find_indexed;
 use session_index::look::hash_at;
 ghost use mathlib.Core.Path.{_≡_};
 ghost use lib.Dec.{ltb};
 ghost use Rattle.lists.specs.Lists.{pick};
 ghost use Rattle.layout.specs.Words.{closedCount};
-ghost use Rattle.session_index.specs.Index.{added};
+ghost use Rattle.session_chains.specs.Index.{added};
 ghost use Rattle.session_indexed.specs.Close.{Keeping, Kept, More};
 
 // Adds id c of hash h, if the count of closed objects has passed it.

@@ -13,7 +13,7 @@ use layout::words::LINKS_AT;
 use layout::words::set_word;
 use model_orders::LINK_WORDS;
 use session_tally::tally_of;
-use sound_fields::slot_ok;
+use sound_object::slot_ok;
 ghost use mathlib.Core.Path.{_≡_};
 ghost use mathlib.Core.Bool.{true};
 ghost use Prim.Native.Nat.{_≤_, _<_};

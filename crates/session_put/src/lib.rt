@@ -24,7 +24,7 @@ pub fn put_sound(store: &mut [u8], records: &mut [u32], bytes: &[u8]) -> Answer
         return Answer::Refused(Refusal::StoreFull, t);
     }
     let top = s.top;
-    memory::bytes::copy(store, top, bytes);
+    memory_copy::copy(store, top, bytes);
     set_word(records, ENDS_AT + d, top + bytes.len());
     Answer::Done(t.grow(bytes.len(), 0))
 }

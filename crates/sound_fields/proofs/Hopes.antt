@@ -16,7 +16,7 @@ use Rattle.model_orders.proofs.Slots.{slot-wide}
 use Rattle.layout.specs.Words.{linkWords, linksOf, linkAt}
 use Rattle.layout.specs.Fields.{objectOk, closedOk, slotsOk}
 use Rattle.layout.proofs.Links.{linksOf-next}
-use Rattle.sound_fields.proofs.Ends.{width-least}
+use Rattle.sound_object.proofs.Ends.{width-least}
 
 -- the test as the code makes it, by a sum: a width holds one number at the least
 pub sum-hopeless : (n : ℕ) (s : Slot) → leb (capacity (s .width) + s .inner) n ≡ hopeless n s

@@ -23,7 +23,7 @@ pub fn is_sound(store: &[u8], records: &[u32]) -> bool
     }
     let top = word(records, ENDS_AT + word(records, OPEN_DEPTH));
     let low = word(records, BEGINS_AT + word(records, CLOSED_COUNT));
-    if !memory::bytes::all_zero(&store[top..low]) {
+    if !memory_compare::bytes::all_zero(&store[top..low]) {
         return false;
     }
     if !opens_ok(store, records) {

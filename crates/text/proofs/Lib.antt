@@ -2,5 +2,3 @@ pub mod Written
 pub mod DigitTurns
 pub mod Decimals
 pub mod DecimalTurns
-pub mod Pairs
-pub mod PairTurns

@@ -1,4 +1,3 @@
-// Numbers as text, in lent slices: decimal without leading zeros, and bytes as pairs of lowercase hex digits. It assumes nothing of what it reads.
+// Numbers as text, in lent slices: digits of a base up to 16, and decimal without leading zeros. It assumes nothing of what it reads.
 pub mod decimal;
 pub mod digits;
-pub mod hex;

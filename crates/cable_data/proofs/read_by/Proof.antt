@@ -1,8 +1,8 @@
 -- What is left to read, from here on, gives what reading all gives; and so do the digits and the remainder.
 use Rattle.cable_data.proofs.Dividing.{divide-turn, divide-end}
 use Rattle.cable_data.specs.Pairs.{pairsAs}
-use Rattle.text.proofs.PairTurns.{bytes-turn, bytes-end, both-turn, both-end}
-use Rattle.text.specs.Hex.{bytesOf}
+use Rattle.text_hex.proofs.PairTurns.{bytes-turn, bytes-end, both-turn, both-end}
+use Rattle.text_hex.specs.Hex.{bytesOf}
 use Rattle.text.specs.Digits.{allDigits}
 use Rattle.cable_crc.specs.Crc.{divided}
 use Rattle.lists.specs.Lists.{over}

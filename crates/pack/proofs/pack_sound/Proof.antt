@@ -2,7 +2,7 @@
 use native.Mathlib.Omega.{arith}
 use Rattle.steps.proofs.Held.{held}
 use Rattle.steps.proofs.Packs.{pack-many, pack-little, pack-open, pack-unknown}
-use Rattle.pack.proofs.Works.{packable, pack-done}
+use Rattle.pack.proofs.Clears.{packable, pack-done}
 use borrow.Author.Needs.{needs}
 use Rattle.pack.proofs.pack_sound.Statement.{statement}
 use Rattle.pack.proofs.pack_sound.Tie as tie

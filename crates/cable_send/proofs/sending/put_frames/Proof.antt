@@ -1,12 +1,12 @@
 -- The frames left, written behind those that stand, give the table's text.
-use Rattle.cable_send.proofs.FramesPut.{restFrom, data-part, length-data, rest-length, rest-put, rest-none, rest-all}
+use Rattle.cable_frame.proofs.FramesPut.{restFrom, data-part, length-data, rest-length, rest-put, rest-none, rest-all}
 use mathlib.Core.Path.{_≡_, refl, sym, ap, _∙_}
 use native.Mathlib.Omega.{arith}
 use Prim.Native.Nat.{_+_, _-_, _≤_}
 use lib.ListN.{length}
 use Rattle.lists.specs.Lists.{over}
 use Rattle.lists.proofs.Runs.{over-none}
-use Rattle.cable_send.specs.Frame.{sent}
+use Rattle.cable_frame.specs.Frame.{sent}
 use borrow.Author.Needs.{needs}
 use Rattle.cable_send.proofs.sending.put_frames.Statement.{statement}
 use Rattle.cable_send.proofs.sending.put_frames.Tie as tie

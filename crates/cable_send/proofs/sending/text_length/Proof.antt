@@ -1,11 +1,11 @@
 -- The lengths summed so far and the length of the frames left.
-use Rattle.cable_send.proofs.FramesPut.{restFrom, rest-length, rest-none, rest-all}
+use Rattle.cable_frame.proofs.FramesPut.{restFrom, rest-length, rest-none, rest-all}
 use mathlib.Core.Path.{_≡_, ap}
 use native.Mathlib.Omega.{arith}
 use Rattle.text.proofs.Decimals.{width-ten}
 use Prim.Native.Nat.{ℕ, _+_, _-_, _*_, _≤_}
 use lib.ListN.{length}
-use Rattle.cable_send.specs.Frame.{sent}
+use Rattle.cable_frame.specs.Frame.{sent}
 use borrow.Author.Needs.{needs}
 use Rattle.cable_send.proofs.sending.text_length.Statement.{statement}
 use Rattle.cable_send.proofs.sending.text_length.Tie as tie

@@ -1,0 +1,3 @@
+pub mod Alike
+pub mod Appending
+pub mod Leading

@@ -1,0 +1,4 @@
+pub mod Frames
+pub mod Kids
+pub mod Spotting
+pub mod Clearing

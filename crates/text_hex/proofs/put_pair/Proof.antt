@@ -1,0 +1,40 @@
+-- Two stores are a list of two written over.
+use native.Mathlib.Omega.{arith}
+use lib.ListN.{length-set}
+use Rattle.text_hex.proofs.PairTurns.{pair-put}
+use borrow.Author.Needs.{needs}
+use Rattle.text_hex.proofs.put_pair.Statement.{statement}
+use Rattle.text_hex.proofs.put_pair.Tie as tie
+
+digit-requires : tie.Need-digit-requires
+digit-requires c κs = search needs
+
+slice-write-out : tie.Need-slice-write-out
+slice-write-out c = search needs
+
+digit-requires-2 : tie.Need-digit-requires-2
+digit-requires-2 c κs = search needs
+
+add-out : tie.Need-add-out
+add-out c = search needs
+
+slice-write-out-2 : tie.Need-slice-write-out-2
+slice-write-out-2 c = simp length-set (omega arith)
+
+same-length : tie.Need-same-length
+same-length c = search needs
+
+returns : tie.Need-returns
+returns c = rw (c .digit2 .ensures, c .before .digit .ensures) (pair-put _ _ _ (search needs))
+
+pub put-pair-spec : {M : Type 1} → statement M
+put-pair-spec =
+    tie.close
+    (tie.spec
+    digit-requires
+    slice-write-out
+    digit-requires-2
+    add-out
+    slice-write-out-2
+    same-length
+    returns)
