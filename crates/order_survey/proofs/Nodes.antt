@@ -12,6 +12,7 @@ use Rattle.regions.proofs.Bounds.{ceiling-at}
 use Rattle.regions.proofs.Frame.{kept-below}
 use Rattle.work.specs.Views.{lineIn}
 use Rattle.work.specs.declared.Areas.{Areas}
+use Rattle.order_graph.specs.Graph.{AtNode}
 use Rattle.order_graph.proofs.Links.{stands-kept}
 use Rattle.order_survey.specs.Survey.{Along}
 
@@ -32,6 +33,9 @@ module _ {a : Areas} {n r t : ℕ} {w : List ℕ} (s : Along a n r w) (h : t < r
 
   pub line-inside : getD w (a .line + t) 0 < n
   line-inside = omega (arith, line-read, ceiling-at (lineIn a r w) t (omega (arith, line-long)))
+
+  pub line-node : AtNode a n (getD w (a .line + t) 0) w
+  line-node = record { graph = s .graph; inside = line-inside }
 
   pub line-left : drop t (lineIn a r w) ≡ getD w (a .line + t) 0 ∷ drop (t + 1) (lineIn a r w)
   line-left = rw (line-read, add-one) (drop-cons (lineIn a r w) t 0 (omega (arith, line-long)))

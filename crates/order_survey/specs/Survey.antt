@@ -1,20 +1,21 @@
 -- docs/RULES.md, 7.1 and 7.4, in the work memory. Once for a root: the line of the nodes that it reaches, parents before their children; how many
 -- fields of those lead to each node; and the length of the table. Along such a line: the distances.
-use Prim.Native.Nat.{ℕ, zero, suc, _+_, _*_, _≤_, _<_}
+use Prim.Native.Nat.{ℕ, zero, suc, _+_, _*_, _≤_, _<_, min}
 use mathlib.Core.Path.{_≡_}
 use mathlib.Core.List.{List, [], _∷_, _++_}
-use lib.ListN.{getD, set, replicate}
+use lib.ListN.{getD, set, take, replicate}
 use lib.Dec.{eqb}
 use Rattle.regions.specs.Region.{ceiling, Kept}
 use Rattle.lists.specs.Lists.{pick}
-use Rattle.model_orders.specs.Object.{Link}
+use Rattle.big_endian.specs.BigEndian.{capacity}
+use Rattle.model_orders.specs.Object.{Link, widest}
 use Rattle.model_orders.specs.Bag.{count}
 use Rattle.model_orders.specs.Graph.{Graph, reached, Ranked, ParentsFirst}
 use Rattle.model_orders.specs.Distance.{weight, Least, relax, relaxAll, distancesBy}
 use Rattle.model_orders.specs.Table.{tableLength}
 use Rattle.work.specs.declared.Areas.{Areas}
 use Rattle.work.specs.Views.{lineIn, incomingIn, distancesIn}
-use Rattle.order_graph.specs.Graph.{graphOn, mostNodes, mostNodeLinks, Stands, AtNode, Counted}
+use Rattle.order_graph.specs.Graph.{graphIn, graphOn, linksAfter, linkCount, mostNodes, mostNodeLinks, mostWeight, Stands, AtNode, Counted}
 
 -- ---- the line, and the incoming fields
 
@@ -70,6 +71,22 @@ pub record LineFound (a : Areas) (n root r : ℕ) (s : Lined) (w w′ : List ℕ
   pub ids : ceiling (lineIn a r w′) ≤ n
   pub found : linedOf a r w′ ≡ lined (graphOn a n w) (root + 1) s
   pub small : ceiling (incomingIn a w′) ≤ ceiling (s .incoming) + mostNodes * mostNodeLinks
+
+-- the links from number t up to `end` lead to one child, and lower its distance as one link of this weight does
+pub record RunOf (a : Areas) (n : ℕ) (f : List ℕ) (i t end child weigh : ℕ) : Type 0 where
+  pub more : t < end
+  pub most : end ≤ linkCount a f i
+  pub known : child < n
+  pub light : weigh < mostWeight
+  pub lowers :
+      (d : ℕ) (ds : List ℕ)
+      → relax farAway (weight (graphIn a n f)) d (linksAfter a f i t) ds
+      ≡ relax farAway (weight (graphIn a n f)) d (linksAfter a f i end) (set ds child (min (getD ds child farAway) (d + weigh)))
+
+-- the weight is that of a link of this width
+pub record Narrows (a : Areas) (n : ℕ) (w : List ℕ) (i t end child width : ℕ) : Type 0 where
+  pub run : RunOf a n (take (a .keys) w) i t end child (getD w child 0 + capacity width)
+  pub narrow : width ≤ widest
 
 -- the links of node i, whose distance is d, taken up in the distances
 pub record Lowering (a : Areas) (n i d : ℕ) (w : List ℕ) : Type 0 where

@@ -1,20 +1,23 @@
 // What every order of a root starts from, found once: the line of the nodes that the root reaches, parents before their children; how many fields
 // of those lead to each node; and the length of the table. Then the distances, for the orders that go by them.
-use order_graph::edge_from;
+use lower::lower_links;
+use lower::runs_are_common;
 use order_graph::field_from;
 use order_graph::link_count;
 use order_graph::links_at;
 use regions::fill;
 use work::Areas;
 ghost use mathlib.Core.Path.{_≡_};
-ghost use Prim.Native.Nat.{_+_, _≤_, _<_, min};
+ghost use Prim.Native.Nat.{_+_, _≤_, _<_};
 ghost use Rattle.lists.specs.Lists.{total};
 ghost use Rattle.regions.specs.Region.{ceiling};
 ghost use Rattle.model_orders.specs.Graph.{Acyclic};
 ghost use Rattle.work.specs.Views.{lineIn, distancesIn};
 ghost use Rattle.order_graph.specs.Graph.{graphOn, AtNode};
 ghost use Rattle.order_survey.specs.Survey.{unlined, linedOf, farAway};
-ghost use Rattle.order_survey.specs.Survey.{Counting, CountedAll, Lining, LineFound, Lowering, Lowered, Along, LoweredAlong, DistancesSet, Measured, Lines, DistancesFound};
+ghost use Rattle.order_survey.specs.Survey.{Counting, CountedAll, Lining, LineFound, Along, LoweredAlong, DistancesSet, Measured, Lines, DistancesFound};
+
+mod lower;
 
 // Beyond any distance.
 const FAR_AWAY: u64 = 281474976710656;
@@ -67,41 +70,20 @@ fn line_down(work: &mut [u64], a: Areas, n: usize, root: usize) -> usize
     r
 }
 
-// One node's distance lowers its children's.
-fn lower_links(work: &mut [u64], a: Areas, n: usize, i: usize, d: u64)
-    requires { ⌜ Lowering a n i d (now work) ⌝ }
-    ensures { λ _. ⌜ Lowered a n i d (now (work .entry)) (now (work .exit)) ⌝ }
-{
-    let count = link_count(work, a, n, i);
-    let from = links_at(work, a, n, i);
-    let mut t = 0;
-    while t < count {
-        let e = edge_from(work, a, n, i, t, from);
-        let j = a.distances + e.child;
-        work[j] = least(work[j], d + e.weight);
-        t += 1;
-    }
-}
-
-fn least(a: u64, b: u64) -> u64
-    ensures { λ r. ⌜ r ≡ min a b ⌝ }
-{
-    if a < b { a } else { b }
-}
-
 // The distances from the root, along the r nodes of the line.
 fn set_distances(work: &mut [u64], a: Areas, n: usize, root: usize, r: usize)
     requires { ⌜ (root < n) × Along a n r (now work) ⌝ }
     ensures { λ _. ⌜ DistancesSet a n root r (now (work .entry)) (now (work .exit)) ⌝ }
 {
+    let runs = runs_are_common(work, a, n, r);
     fill(work, a.distances, a.nodes, FAR_AWAY);
     let first = a.distances + root;
     work[first] = 0;
-    lower_along(work, a, n, r);
+    lower_along(work, a, n, r, runs);
 }
 
-// Each node of the line in turn lowers its children's distances.
-fn lower_along(work: &mut [u64], a: Areas, n: usize, r: usize)
+// Each node of the line in turn lowers its children's distances, by runs of its links or link by link.
+fn lower_along(work: &mut [u64], a: Areas, n: usize, r: usize, runs: bool)
     requires { ⌜ Along a n r (now work) × (ceiling (distancesIn a (now work)) ≤ farAway + 1) ⌝ }
     ensures { λ _. ⌜ LoweredAlong a n r (now (work .entry)) (now (work .exit)) ⌝ }
 {
@@ -111,7 +93,7 @@ fn lower_along(work: &mut [u64], a: Areas, n: usize, r: usize)
         let i = work[j] as usize;
         let k = a.distances + i;
         let d = work[k];
-        lower_links(work, a, n, i, d);
+        lower_links(work, a, n, i, d, runs);
         t += 1;
     }
 }

@@ -7,10 +7,10 @@ use Rattle.order_survey.proofs.lower_along.Statement.{statement}
 use Rattle.order_survey.proofs.lower_along.Tie as tie
 
 abbrev Inv-loop : tie.InvT-loop
-Inv-loop work₀ a n r t₀ work t = Follows a n r t work₀ work
+Inv-loop work₀ a n r runs t₀ work t = Follows a n r t work₀ work
 
 abbrev μ-loop : tie.MeasureT-loop
-μ-loop work₀ a n r t₀ work t = r - t
+μ-loop work₀ a n r runs t₀ work t = r - t
 
 loop-holds : tie.Need-loop-holds Inv-loop μ-loop
 loop-holds c = follows-none (c .before .pre .0) (c .before .pre .1)
