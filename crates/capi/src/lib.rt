@@ -26,4 +26,6 @@ pub use needs::scoterlime_records_need;
 pub use needs::scoterlime_work_need;
 pub use packing::scoterlime_pack;
 pub use promoting::scoterlime_promote_gsub;
+pub use promoting::scoterlime_promote_gsub_whole;
 pub use reading::scoterlime_read_gsub;
+pub use reading::scoterlime_read_gsub_whole;

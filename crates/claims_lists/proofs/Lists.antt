@@ -53,9 +53,9 @@ pack-behind (c ∷ cs) id copies out work s = pack-behind cs id copies out work 
 -- it is its step
 unfoldable pub IsStep : Stores → AnyMade → Type 0
 IsStep s (call m) = m .left ≡ lentStep (m .call) s
-IsStep s (read r) = r .left ≡ readStep (r .table) (r .objects) (r .links) s
+IsStep s (read r) = r .left ≡ readStep (r .scope) (r .table) (r .objects) (r .links) s
 IsStep s (batch b) = b .left ≡ batchStep (b .calls) (b .bytes) (b .ids) (b .work) s
-IsStep s (promote p) = p .left ≡ promoteStep (p .table) (p .objects) (p .links) (lent s (p .out) (p .work))
+IsStep s (promote p) = p .left ≡ promoteStep (p .scope) (p .table) (p .objects) (p .links) (lent s (p .out) (p .work))
 
 module _ (bytes words : ℕ) where
   abbrev Holds : Stores → History → Type 0
@@ -78,11 +78,11 @@ module _ (bytes words : ℕ) where
   one-call h m e = record { as-run = ap (λ l. record { call = m .call; left = l } ∷ []) e; leaves = refl; right = tt }
 
   -- a read asks of the stores only how long they are
-  one-read : {s : Stores} (h : History) (r : MadeRead) → length (s .bytes) ≡ bytes → length (s .words) ≡ words → r .left ≡ readStep (r .table) (r .objects) (r .links) s → One (read r) s h
+  one-read : {s : Stores} (h : History) (r : MadeRead) → length (s .bytes) ≡ bytes → length (s .words) ≡ words → r .left ≡ readStep (r .scope) (r .table) (r .objects) (r .links) s → One (read r) s h
   unfolding Right
   one-read {s} h r e f k =
-      let l : r .left .stores ≡ storesAfter (run (standsFor bytes words s h (read r)) s) s = rw (k, ← e, ← f) (read-listed (gsubOps (r .table)) (r .objects) (r .links) s workOf ∙ left-run _ s) in
-      record { as-run = refl; leaves = l; right = (rw (k, ← e, ← f) (read-told (gsubOps (r .table)) (r .objects) (r .links) s workOf), l) }
+      let l : r .left .stores ≡ storesAfter (run (standsFor bytes words s h (read r)) s) s = rw (k, ← e, ← f) (read-listed (gsubOps (r .scope) (r .table)) (r .objects) (r .links) s workOf ∙ left-run _ s) in
+      record { as-run = refl; leaves = l; right = (rw (k, ← e, ← f) (read-told (gsubOps (r .scope) (r .table)) (r .objects) (r .links) s workOf), l) }
 
   one-batch : {s : Stores} {h : History} → Holds s h → (b : MadeBatch) → b .left ≡ batchStep (b .calls) (b .bytes) (b .ids) (b .work) s → One (batch b) s h
   unfolding Right
@@ -96,31 +96,31 @@ module _ (bytes words : ℕ) where
 
   -- nor does a promotion ask more of them
   module _ (s : Stores) (h : History) (p : MadePromote) (e : length (s .bytes) ≡ bytes) (f : length (s .words) ≡ words)
-      (k : p .left ≡ promoteStep (p .table) (p .objects) (p .links) (lent s (p .out) (p .work))) where
+      (k : p .left ≡ promoteStep (p .scope) (p .table) (p .objects) (p .links) (lent s (p .out) (p .work))) where
     abbrev x : Lent
     x = lent s (p .out) (p .work)
 
     abbrev calls : List StoreCall
-    calls = promoteCalls needs bytes words (p .table) (p .objects) (p .links) (p .left .told)
+    calls = promoteCalls needs bytes words (p .scope) (p .table) (p .objects) (p .links) (p .left .told)
 
     -- as its session calls leave them
     promote-leaves : p .left .left .stores ≡ leftAfter calls s
-    promote-leaves = rw (k, ← e, ← f) (promote-listed (p .table) (p .objects) (p .links) x workOf)
+    promote-leaves = rw (k, ← e, ← f) (promote-listed (p .scope) (p .table) (p .objects) (p .links) x workOf)
 
-    promotes : p .left .told .number ≡ 0 → Promotes bytes words p (opsExpected needs bytes words (trialOps (p .left .told .lookups) (p .table)) (p .objects) (p .links)) (lentStep (packCallOf s p) (p .left .left .stores))
+    promotes : p .left .told .number ≡ 0 → Promotes bytes words p (opsExpected needs bytes words (trialOps (p .scope) (p .left .told .lookups) (p .table)) (p .objects) (p .links)) (lentStep (packCallOf s p) (p .left .left .stores))
     promotes z = go (eqb (stepOn (start (p .objects) (p .links)) s .told .number) 0) refl
       where
         go : (b : Bool) → eqb (stepOn (start (p .objects) (p .links)) s .told .number) 0 ≡ b
-            → Promotes bytes words p (opsExpected needs bytes words (trialOps (p .left .told .lookups) (p .table)) (p .objects) (p .links)) (lentStep (packCallOf s p) (p .left .left .stores))
+            → Promotes bytes words p (opsExpected needs bytes words (trialOps (p .scope) (p .left .told .lookups) (p .table)) (p .objects) (p .links)) (lentStep (packCallOf s p) (p .left .left .stores))
         go true q =
             let begins = eqb-true _ 0 q in
-            let t = subst (IsTrial (p .table) (p .objects) (p .links) x begins) (sym k) (found-trial (p .table) (p .objects) (p .links) x begins (ap (λ (l : PromoteLeft). l .told .number) (sym k) ∙ z)) in
+            let t = subst (IsTrial (p .scope) (p .table) (p .objects) (p .links) x begins) (sym k) (found-trial (p .scope) (p .table) (p .objects) (p .links) x begins (ap (λ (l : PromoteLeft). l .told .number) (sym k) ∙ z)) in
             let n = p .left .told .lookups in
-            let y = before (p .table) (p .objects) (p .links) x n in
-            let tried = trialAt (p .table) (p .objects) (p .links) x n in
-            let read : tried .read .told ≡ opsExpected needs bytes words (trialOps n (p .table)) (p .objects) (p .links) =
-            read-told (trialOps n (p .table)) (p .objects) (p .links) (y .stores) workOf
-            ∙ (λ i. opsExpected needs ((t .afresh .sameBytes ∙ e) i) ((t .afresh .sameWords ∙ f) i) (trialOps n (p .table)) (p .objects) (p .links)) in
+            let y = before (p .scope) (p .table) (p .objects) (p .links) x n in
+            let tried = trialAt (p .scope) (p .table) (p .objects) (p .links) x n in
+            let read : tried .read .told ≡ opsExpected needs bytes words (trialOps (p .scope) n (p .table)) (p .objects) (p .links) =
+            read-told (trialOps (p .scope) n (p .table)) (p .objects) (p .links) (y .stores) workOf
+            ∙ (λ i. opsExpected needs ((t .afresh .sameBytes ∙ e) i) ((t .afresh .sameWords ∙ f) i) (trialOps (p .scope) n (p .table)) (p .objects) (p .links)) in
             let id : p .left .told .id ≡ tried .read .told .id = ap (λ (l : PromoteLeft). l .told .id) (t .is) in
             let stores-are : p .left .left .stores ≡ tried .read .stores = ap (λ (l : PromoteLeft). l .left .stores) (t .is) in
             let same : lentStep (packCallOf s p) (p .left .left .stores) ≡ tried .pack = λ i. lentStep (pack (id i) 0 (sym (t .afresh .output) i) (y .work)) (stores-are i) in
@@ -132,7 +132,7 @@ module _ (bytes words : ℕ) where
               length-is = ap (λ (l : PromoteLeft). l .told .length) (t .is);
               output-is = ap (λ (l : PromoteLeft). l .left .out) (t .is);
             }
-        go false q = absurd (start-refused (p .table) (p .objects) (p .links) x (eqb-false _ 0 q) (ap (λ (l : PromoteLeft). l .told .number) (sym k) ∙ z))
+        go false q = absurd (start-refused (p .scope) (p .table) (p .objects) (p .links) x (eqb-false _ 0 q) (ap (λ (l : PromoteLeft). l .told .number) (sym k) ∙ z))
 
     one-promote : One (promote p) s h
     unfolding Right
@@ -276,17 +276,17 @@ module _ {made : Stores → AnyMade → Type 0} (step : (s : Stores) (x : AnyMad
       let w : run (onStores (start (k .objects) (k .links)) ∷ l .calls) s ≡ first ∷ rest = sym (l .as-run) ∙ e in
       (rw (← eo, ← el) (from-start (k .objects) (k .links) s first rest (l .calls) y (ap (λ (x : Made). x .left .stores) (sym d)) (sym (ap behindFirst w))), l .right)
 
-  read-starts : (s : Stores) (h : History) (r : MadeRead) → r .left ≡ readStep (r .table) (r .objects) (r .links) s → Starting (read r) s h
+  read-starts : (s : Stores) (h : History) (r : MadeRead) → r .left ≡ readStep (r .scope) (r .table) (r .objects) (r .links) s → Starting (read r) s h
   unfolding opsCalls
   read-starts s h r e = record { objects = r .objects; links = r .links; calls = _; is = refl; one-is = one-read (length (s .bytes)) (length (s .words)) h r refl refl e }
 
-  promote-starts : (s : Stores) (h : History) (p : MadePromote) → p .left ≡ promoteStep (p .table) (p .objects) (p .links) (lent s (p .out) (p .work)) → Starting (promote p) s h
+  promote-starts : (s : Stores) (h : History) (p : MadePromote) → p .left ≡ promoteStep (p .scope) (p .table) (p .objects) (p .links) (lent s (p .out) (p .work)) → Starting (promote p) s h
   unfolding opsCalls
   promote-starts s h p e = go (eqb (p .left .told .number) 0) refl
     where
       shape : Bool → List LentCall
       shape b =
-          map onStores (pick b (opsCalls needs (length (s .bytes)) (length (s .words)) (trialOps (p .left .told .lookups) (p .table)) (p .objects) (p .links)) (start (p .objects) (p .links) ∷ []))
+          map onStores (pick b (opsCalls needs (length (s .bytes)) (length (s .words)) (trialOps (p .scope) (p .left .told .lookups) (p .table)) (p .objects) (p .links)) (start (p .objects) (p .links) ∷ []))
           ++ pick b (packCallOf s p ∷ []) []
 
       o : One (length (s .bytes)) (length (s .words)) (promote p) s h

@@ -1,4 +1,4 @@
--- docs/RULES.md, section 8, 11.8, 14.6 and 15.8: lists of all calls, in which a read, a batch and a promotion stand for several of the eight.
+-- docs/RULES.md, section 8, 11.8, 14.6, 15.8 and 16.1: lists of all calls, in which a read, a batch and a promotion stand for several of the eight.
 use Prim.Native.Nat.{ℕ}
 use mathlib.Core.Path.{_≡_}
 use mathlib.Core.List.{List, [], _∷_, _++_, map}
@@ -9,13 +9,15 @@ use Rattle.model.specs.History.{History, begun}
 use Rattle.steps.specs.Steps.{limitsOf}
 use Rattle.steps.specs.Runs.{start, Stores, LentCall, onStores, pack, LentLeft, lentStep}
 use Rattle.claims.specs.Demand.{needs, Made, run, storesAfter, historyAfter, AllClaim}
+use Rattle.gsub.specs.declared.Scope.{Scope}
 use Rattle.gsub.specs.Promote.{trialOps}
 use Rattle.gsub_read.specs.Read.{ReadTold, ReadLeft, opsExpected, readExpected, readCalls}
 use Rattle.gsub_promote.specs.Search.{Lent, lent, PromoteLeft, before, promoteCalls}
 use Rattle.session_batch.specs.Batch.{Batch, BatchLeft, batchExpected, batchIds, batchCalls}
 
--- a read with its arguments, and what it told and left
+-- a read of either scope with its arguments, and what it told and left
 pub record MadeRead : Type 0 where
+  pub scope : Scope
   pub table : List ℕ
   pub objects : ℕ
   pub links : ℕ
@@ -29,8 +31,9 @@ pub record MadeBatch : Type 0 where
   pub work : List ℕ
   pub left : BatchLeft
 
--- a promotion with its arguments, the output and the work memory that it was lent, and what it told and left
+-- a promotion of either scope with its arguments, the output and the work memory that it was lent, and what it told and left
 pub record MadePromote : Type 0 where
+  pub scope : Scope
   pub table : List ℕ
   pub objects : ℕ
   pub links : ℕ
@@ -63,17 +66,17 @@ argumentsOf b = record { calls = b .calls; bytes = b .bytes; room = length (b .i
 
 -- the pack of an accepted promotion: its work memory is as the trials before it left it, of which the history is fed the length alone
 abbrev pub packCallOf : Stores → MadePromote → LentCall
-packCallOf s p = pack (p .left .told .id) 0 (p .out) (before (p .table) (p .objects) (p .links) (lent s (p .out) (p .work)) (p .left .told .lookups) .work)
+packCallOf s p = pack (p .left .told .id) 0 (p .out) (before (p .scope) (p .table) (p .objects) (p .links) (lent s (p .out) (p .work)) (p .left .told .lookups) .work)
 
 module _ (bytes words : ℕ) where
   -- the calls that it stands for on these stores, by its arguments, the stores' lengths and the history before it; of an accepted promotion those of the trial with as many lookups
   -- promoted as it told, and the pack
   abbrev pub standsFor : Stores → History → AnyMade → List LentCall
   standsFor s h (call m) = m .call ∷ []
-  standsFor s h (read r) = map onStores (readCalls needs bytes words (r .table) (r .objects) (r .links))
+  standsFor s h (read r) = map onStores (readCalls needs bytes words (r .scope) (r .table) (r .objects) (r .links))
   standsFor s h (batch b) = map onStores (batchCalls needs bytes words (argumentsOf b) h)
   standsFor s h (promote p) =
-      map onStores (promoteCalls needs bytes words (p .table) (p .objects) (p .links) (p .left .told)) ++ pick (eqb (p .left .told .number) 0) (packCallOf s p ∷ []) []
+      map onStores (promoteCalls needs bytes words (p .scope) (p .table) (p .objects) (p .links) (p .left .told)) ++ pick (eqb (p .left .told .number) 0) (packCallOf s p ∷ []) []
 
   -- these with what each left: of one of the eight, what it did leave
   abbrev pub madeBy : History → AnyMade → Stores → List Made
@@ -99,13 +102,13 @@ module _ (bytes words : ℕ) where
   -- a read, a batch and a promotion tell what the history says, and leave the stores as the calls that they stand for leave them
   unfoldable pub Right : AnyMade → Stores → History → Type 0
   Right (call m) s h = Unit {0}
-  Right (read r) s h = (r .left .told ≡ readExpected needs bytes words (r .table) (r .objects) (r .links)) × (r .left .stores ≡ storesAfter (madeBy h (read r) s) s)
+  Right (read r) s h = (r .left .told ≡ readExpected needs bytes words (r .scope) (r .table) (r .objects) (r .links)) × (r .left .stores ≡ storesAfter (madeBy h (read r) s) s)
   Right (batch b) s h =
       (b .left .told ≡ batchExpected needs bytes words (argumentsOf b) h)
       × (b .left .ids ≡ over 0 (batchIds needs bytes words (argumentsOf b) h) (b .ids))
       × (b .left .stores ≡ storesAfter (madeBy h (batch b) s) s)
   Right (promote p) s h =
-      (p .left .told .number ≡ 0 → Promotes p (opsExpected needs bytes words (trialOps (p .left .told .lookups) (p .table)) (p .objects) (p .links)) (lentStep (packCallOf s p) (p .left .left .stores)))
+      (p .left .told .number ≡ 0 → Promotes p (opsExpected needs bytes words (trialOps (p .scope) (p .left .told .lookups) (p .table)) (p .objects) (p .links)) (lentStep (packCallOf s p) (p .left .left .stores)))
       × (p .left .left .stores ≡ storesAfter (madeBy h (promote p) s) s)
 
   unfoldable pub AllRight : List AnyMade → Stores → History → Type 0

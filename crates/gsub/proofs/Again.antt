@@ -4,27 +4,30 @@ use Prim.Native.Nat.{ℕ, zero, suc, _+_, _-_, _≤_, _<_}
 use mathlib.Core.List.{List, [], _∷_, _++_}
 use mathlib.Core.Bool.{Bool, true, false}
 use mathlib.Core.Logic.{inl, inr}
+use native.Mathlib.Nat.{add-zero}
 use native.Mathlib.Omega.{arith}
-use borrow.Author.Tests.{le-leb, eq-eqb, ne-eqb}
+use borrow.Author.Tests.{le-leb, eqb-true, eq-eqb, ne-eqb}
 use lib.ListN.{length, getD, replicate, length-append, length-replicate, List·getD-append}
 use lib.Seq.{ext-getD, getD-append-add}
 use lib.Dec.{eqb, leb}
 use Rattle.lists.specs.Lists.{pick, part}
 use Rattle.lists.proofs.Parts.{getD-part}
 use Rattle.lists.proofs.Runs.{length-part}
+use Rattle.lists.proofs.Same.{and-left, and-right}
 use Rattle.big_endian.specs.BigEndian.{readFrom as readBytes}
 use Rattle.model_orders.specs.Object.{newSlot}
 use Rattle.model_orders.specs.Reading.{Reading, bytesOf, readingSize, Outside, Own, target, FieldsShow, Apart, Wide}
 use Rattle.gsub.specs.declared.Kind.{Kind}
 use Rattle.gsub.specs.declared.Rule.{Rule}
-use Rattle.gsub.specs.declared.Rule.the-variants.{Any, Only, To, ToOrNull}
+use Rattle.gsub.specs.declared.Rule.the-variants.{Any, Only, To, ToOrNull, ToFeature}
 use Rattle.gsub.specs.declared.Field.{Field}
 use Rattle.gsub.specs.Tables.{fieldsAt, wordAt}
-use Rattle.gsub.specs.Ops.{Act, keep, follow, refuse, valueAt, byRule, act, Op, begin, put, link, end, stop, actOps, fieldsOps, opsBy, tableOps}
+use Rattle.gsub.specs.Ops.{Act, keep, follow, refuse, valueAt, featureAt, byRule, act, Op, begin, put, link, end, stop, actOps, fieldsOps, opsBy, tableOps}
 use Rattle.gsub.specs.Meaning.{actBytes, ownBytes, actReading, fieldsReading, readingBy}
 use Rattle.gsub.specs.Promote.{Mode, bytesIn, placeIn, childMode, childPlace, modeOps, modeReading}
 use Rattle.gsub.proofs.Accepted.{act-room}
-use Rattle.gsub.proofs.Settled.{Plain, Agree, settled}
+use Rattle.gsub.proofs.Settled.{Plain, plainRule, Agree, settled}
+use Rattle.gsub.proofs.Tags.{tagFits, isTag, tagsStand, all-tags}
 
 -- ---- ops without refusal 15
 
@@ -64,28 +67,78 @@ pub record Shown (t : List ℕ) (q : ℕ) (r : Reading) : Type 0 where
 -- ---- one field read again
 
 -- an offset that was followed is followed again if it is not zero
-follow-again : (r : Rule) (v u : ℕ) (k : Kind) → byRule r v ≡ follow k → (u ≡ 0 → ⊥) → byRule r u ≡ follow k
+follow-again : (r : Rule) (h : Kind) (v u : ℕ) (k : Kind) → byRule r h v ≡ follow k → (u ≡ 0 → ⊥) → byRule r h u ≡ follow k
 unfolding byRule
-follow-again Any v u k e n = absurd (let z : _≡_ {A = ℕ} 0 1 = cc in omega arith)
-follow-again (Only x) v u k e n = absurd (go (eqb v x) e)
+follow-again Any h v u k e n = absurd (let z : _≡_ {A = ℕ} 0 1 = cc in omega arith)
+follow-again (Only x) h v u k e n = absurd (go (eqb v x) e)
   where
     go : (t : Bool) → pick t keep refuse ≡ follow k → ⊥
     go true e = let z : _≡_ {A = ℕ} 0 1 = cc in omega arith
     go false e = let z : _≡_ {A = ℕ} 0 1 = cc in omega arith
-follow-again (To j) v u k e n = rw (ne-eqb u 0 n) (go (eqb v 0) e)
+follow-again (To j) h v u k e n = rw (ne-eqb u 0 n) (go (eqb v 0) e)
   where
     go : (t : Bool) → pick t refuse (follow j) ≡ follow k → follow j ≡ follow k
     go true e = cc
     go false e = e
-follow-again (ToOrNull j) v u k e n = rw (ne-eqb u 0 n) (go (eqb v 0) e)
+follow-again (ToOrNull j) h v u k e n = rw (ne-eqb u 0 n) (go (eqb v 0) e)
   where
     go : (t : Bool) → pick t keep (follow j) ≡ follow k → follow j ≡ follow k
     go true e = cc
     go false e = e
+follow-again ToFeature h v u k e n = rw (ne-eqb u 0 n) (go (eqb v 0) e)
+  where
+    go : (t : Bool) → pick t refuse (follow h) ≡ follow k → follow h ≡ follow k
+    go true e = cc
+    go false e = e
 
-act-rule : (b : List ℕ) (at : ℕ) (f : Field) → at + f .width ≤ length b → act b at f ≡ byRule (f .rule) (valueAt b at (f .width))
+-- a field that the tag before it plays a part in stands behind one, and then both tables have the same tag there
+pub rule-same : (r : Rule) (last : Bool) (h j : Kind) (v : ℕ) → tagFits last r ≡ true → (last ≡ true → h ≡ j) → byRule r h v ≡ byRule r j v
+unfolding byRule
+rule-same Any last h j v f e = refl
+rule-same (Only x) last h j v f e = refl
+rule-same (To k) last h j v f e = refl
+rule-same (ToOrNull k) last h j v f e = refl
+rule-same ToFeature last h j v f e = rw (e f)
+
+act-rule : (b : List ℕ) (at : ℕ) (f : Field) → at + f .width ≤ length b → act b at f ≡ byRule (f .rule) (featureAt b at) (valueAt b at (f .width))
 unfolding act
 act-rule b at f h = rw (le-leb (at + f .width) (length b) h)
+
+-- ---- a field that is kept
+
+-- a plain field is not followed
+pub plain-kept : (b : List ℕ) (at : ℕ) (f : Field) → plainRule (f .rule) ≡ true → (k : Kind) → act b at f ≡ follow k → ⊥
+unfolding act byRule
+plain-kept b at f h k = go (f .rule) h (leb (at + f .width) (length b)) (featureAt b at) (valueAt b at (f .width))
+  where
+    no-follow : (t : Bool) → pick t keep refuse ≡ follow k → ⊥
+    no-follow true e = let z : _≡_ {A = ℕ} 0 1 = cc in omega arith
+    no-follow false e = let z : _≡_ {A = ℕ} 0 1 = cc in omega arith
+
+    go : (r : Rule) → plainRule r ≡ true → (t : Bool) (j : Kind) (v : ℕ) → pick t (byRule r j v) refuse ≡ follow k → ⊥
+    go Any h t j v e = no-follow t e
+    go (Only x) h true j v e = no-follow (eqb v x) e
+    go (Only x) h false j v e = let z : _≡_ {A = ℕ} 0 1 = cc in omega arith
+    go (To i) h t j v e = let z : _≡_ {A = ℕ} 0 1 = cc in omega arith
+    go (ToOrNull i) h t j v e = let z : _≡_ {A = ℕ} 0 1 = cc in omega arith
+    go ToFeature h t j v e = let z : _≡_ {A = ℕ} 0 1 = cc in omega arith
+
+module _ (b t : List ℕ) (p q : ℕ) where
+  -- the number at x of w equal bytes
+  same-word : (a w x : ℕ) → x + 2 ≤ w → part (q + a) (q + a + w) t ≡ part (p + a) (p + a + w) b → wordAt b (p + a + x) ≡ wordAt t (q + a + x)
+  same-word a w x h e =
+      let byte : (c : ℕ) (l : List ℕ) (i : ℕ) → i < w → getD (part c (c + w) l) i 0 ≡ getD l (c + i) 0 = λ c l i g. getD-part c (c + w) i l (omega arith) in
+      let same : (i : ℕ) → i < w → getD b (p + a + i) 0 ≡ getD t (q + a + i) 0 = λ i g. sym (byte (p + a) b i g) ∙ ap (λ l. getD l i 0) (sym e) ∙ byte (q + a) t i g in
+      let i : p + a + x + 1 ≡ p + a + (x + 1) = omega arith in
+      let j : q + a + x + 1 ≡ q + a + (x + 1) = omega arith in
+      rw (i, j, same x (omega arith), same (x + 1) (omega arith))
+
+  -- the tag before the next field
+  same-tag : (a w : ℕ) → w ≡ 4 → part (q + a) (q + a + w) t ≡ part (p + a) (p + a + w) b → featureAt t (q + (a + w)) ≡ featureAt b (p + (a + w))
+  same-tag a w e h =
+      let high : (c : ℕ) → c + (a + w) - 4 ≡ c + a + 0 = λ c. omega arith in
+      let low : (c : ℕ) → c + (a + w) - 2 ≡ c + a + 2 = λ c. omega arith in
+      rw (high q, high p, low q, low p, same-word a w 0 (omega arith) h, same-word a w 2 (omega arith) h)
 
 -- what two tables have of a field that is judged y in one of them
 module _ (opsB opsT : ℕ → Kind → ℕ → List Op) (b t : List ℕ) (p q : ℕ) where
@@ -98,15 +151,33 @@ module _ (opsB opsT : ℕ → Kind → ℕ → List Op) (b t : List ℕ) (p q : 
   Copied a [] = Unit {0}
   Copied a (f ∷ fs) = Same a (f .width) (act b (p + a) f) × Copied (a + f .width) fs
 
-  same-act : (a : ℕ) (f : Field) (y : Act) → act b (p + a) f ≡ y → Same a (f .width) y → act t (q + a) f ≡ y
+  kept-part : (a w : ℕ) (y : Act) → ((k : Kind) → y ≡ follow k → ⊥) → Same a w y → part (q + a) (q + a + w) t ≡ part (p + a) (p + a + w) b
   unfolding Same
-  same-act a f keep e s =
+  kept-part a w keep n s = s .0
+  kept-part a w (follow k) n s = absurd (n k refl)
+  kept-part a w refuse n s = absurd s
+
+  -- the tag before a calls for the same Feature
+  abbrev SameTag : Bool → ℕ → Type 0
+  SameTag last a = last ≡ true → featureAt t (q + a) ≡ featureAt b (p + a)
+
+  same-act : (last : Bool) (a : ℕ) (f : Field) → tagFits last (f .rule) ≡ true → SameTag last a → (y : Act) → act b (p + a) f ≡ y → Same a (f .width) y → act t (q + a) f ≡ y
+  unfolding Same
+  same-act last a f fits tags keep e s =
       let room = act-room b (p + a) f (λ r. let z : _≡_ {A = ℕ} 0 1 = cc in omega arith) in
-      act-rule t (q + a) f (s .1) ∙ rw (s .0) (sym (act-rule b (p + a) f room) ∙ e)
-  same-act a f (follow k) e s =
+      act-rule t (q + a) f (s .1) ∙ rule-same (f .rule) last _ _ _ fits tags ∙ rw (s .0) (sym (act-rule b (p + a) f room) ∙ e)
+  same-act last a f fits tags (follow k) e s =
       let room = act-room b (p + a) f (λ r. let z : _≡_ {A = ℕ} 0 1 = cc in omega arith) in
-      act-rule t (q + a) f (s .1) ∙ follow-again (f .rule) (valueAt b (p + a) (f .width)) _ k (sym (act-rule b (p + a) f room) ∙ e) (s .0)
-  same-act a f refuse e s = absurd s
+      act-rule t (q + a) f (s .1) ∙ rule-same (f .rule) last _ _ _ fits tags
+      ∙ follow-again (f .rule) (featureAt b (p + a)) (valueAt b (p + a) (f .width)) _ k (sym (act-rule b (p + a) f room) ∙ e) (s .0)
+  same-act last a f fits tags refuse e s = absurd s
+
+  -- behind a tag that is kept
+  next-tag : (a : ℕ) (f : Field) → Same a (f .width) (act b (p + a) f) → SameTag (isTag f) (a + f .width)
+  next-tag a f s e =
+      let w : f .width ≡ 4 = eqb-true (f .width) 4 (and-left (eqb (f .width) 4) _ e) in
+      let kept = kept-part a (f .width) _ (plain-kept b (p + a) f (and-right (eqb (f .width) 4) _ e)) s in
+      same-tag b t p q a (f .width) w kept
 
   same-ops : (a w : ℕ) (y : Act) → Same a w y → actOps (opsT a) t q a w y ≡ actOps (opsB a) b p a w y
   unfolding Same actOps
@@ -114,11 +185,15 @@ module _ (opsB opsT : ℕ → Kind → ℕ → List Op) (b t : List ℕ) (p q : 
   same-ops a w (follow k) s = rw (s .2)
   same-ops a w refuse s = absurd s
 
-  copied-ops : (fs : List Field) (a : ℕ) → Copied a fs → fieldsOps opsT t q a fs ≡ fieldsOps opsB b p a fs
-  unfolding Copied fieldsOps
-  copied-ops [] a c = refl
-  copied-ops (f ∷ fs) a c =
-      rw (same-act a f (act b (p + a) f) refl (c .0), same-ops a (f .width) (act b (p + a) f) (c .0), copied-ops fs (a + f .width) (c .1))
+  copied-ops : (fs : List Field) (last : Bool) (a : ℕ) → tagsStand last fs ≡ true → SameTag last a → Copied a fs → fieldsOps opsT t q a fs ≡ fieldsOps opsB b p a fs
+  unfolding Copied fieldsOps tagsStand
+  copied-ops [] last a fits tags c = refl
+  copied-ops (f ∷ fs) last a fits tags c =
+      rw (
+        same-act last a f (and-left (tagFits last (f .rule)) _ fits) tags (act b (p + a) f) refl (c .0),
+        same-ops a (f .width) (act b (p + a) f) (c .0),
+        copied-ops fs (isTag f) (a + f .width) (and-right (tagFits last (f .rule)) _ fits) (next-tag a f (c .0)) (c .1),
+      )
 
 -- ---- a reading's fields and bytes
 
@@ -257,41 +332,23 @@ module _ (opsB opsT : ℕ → Kind → ℕ → List Op) (rd : ℕ → Kind → �
 -- ---- the same fields
 
 module _ (opsB opsT : ℕ → Kind → ℕ → List Op) (b t : List ℕ) (p q : ℕ) where
-  same-word : (a : ℕ) → part (q + a) (q + a + 2) t ≡ part (p + a) (p + a + 2) b → wordAt b (p + a) ≡ wordAt t (q + a)
-  same-word a e =
-      let none : (c : ℕ) → c + 0 ≡ c = λ c. omega arith in
-      let high : (c : ℕ) (l : List ℕ) → getD (part c (c + 2) l) 0 0 ≡ getD l c 0 = λ c l. getD-part c (c + 2) 0 l (omega arith) ∙ ap (λ z. getD l z 0) (none c) in
-      let low : (c : ℕ) (l : List ℕ) → getD (part c (c + 2) l) 1 0 ≡ getD l (c + 1) 0 = λ c l. getD-part c (c + 2) 1 l (omega arith) in
-      let x : getD b (p + a) 0 ≡ getD t (q + a) 0 = sym (high (p + a) b) ∙ ap (λ l. getD l 0 0) (sym e) ∙ high (q + a) t in
-      let y : getD b (p + a + 1) 0 ≡ getD t (q + a + 1) 0 = sym (low (p + a) b) ∙ ap (λ l. getD l 1 0) (sym e) ∙ low (q + a) t in
-      rw (x, y)
-
-  kept-word : (a w : ℕ) (y : Act) → ((k : Kind) → y ≡ follow k → ⊥) → Same opsB opsT b t p q a w y → w ≡ 2 → wordAt b (p + a) ≡ wordAt t (q + a)
-  unfolding Same
-  kept-word a w keep n s e = same-word a (rw e at (s .0))
-  kept-word a w (follow k) n s e = absurd (n k refl)
-  kept-word a w refuse n s e = absurd s
-
-  -- plain fields are not followed
-  no-follow : (t : Bool) (k : Kind) → pick t keep refuse ≡ follow k → ⊥
-  no-follow true k e = let z : _≡_ {A = ℕ} 0 1 = cc in omega arith
-  no-follow false k e = let z : _≡_ {A = ℕ} 0 1 = cc in omega arith
-
-  only-follow : (t u : Bool) (k : Kind) → pick t (pick u keep refuse) refuse ≡ follow k → ⊥
-  only-follow true u k e = no-follow u k e
-  only-follow false u k e = let z : _≡_ {A = ℕ} 0 1 = cc in omega arith
-
-  agree-field : (a w : ℕ) (r : Rule) → Same opsB opsT b t p q a w (act b (p + a) (record { width = w; rule = r })) → Plain r (w ≡ 2 → wordAt b (p + a) ≡ wordAt t (q + a))
-  unfolding Plain act byRule
-  agree-field a w Any s = kept-word a w _ (no-follow (leb (p + a + w) (length b))) s
-  agree-field a w (Only x) s = kept-word a w _ (only-follow (leb (p + a + w) (length b)) (eqb (valueAt b (p + a) w) x)) s
-  agree-field a w (To k) s = tt
-  agree-field a w (ToOrNull k) s = tt
+  agree-field : (a : ℕ) (f : Field) → Same opsB opsT b t p q a (f .width) (act b (p + a) f) → Plain (f .rule) (f .width ≡ 2 → wordAt b (p + a) ≡ wordAt t (q + a))
+  unfolding Plain
+  agree-field a f s = if-plain (f .rule) (λ h e.
+      let kept = kept-part opsB opsT b t p q a (f .width) _ (plain-kept b (p + a) f h) s in
+      rw (add-zero (p + a), add-zero (q + a)) at (same-word b t p q a 2 0 (omega arith) (rw e at kept)))
+    where
+      if-plain : {T : Type 0} (r : Rule) → (plainRule r ≡ true → T) → Plain r T
+      if-plain Any g = g refl
+      if-plain (Only x) g = g refl
+      if-plain (To k) g = tt
+      if-plain (ToOrNull k) g = tt
+      if-plain ToFeature g = tt
 
   copied-agree : (fs : List Field) (a : ℕ) → Copied opsB opsT b t p q a fs → Agree (λ i. wordAt b (p + i)) (λ i. wordAt t (q + i)) a fs
   unfolding Copied Agree
   copied-agree [] a c = tt
-  copied-agree (f ∷ fs) a c = (agree-field a (f .width) (f .rule) (c .0), copied-agree fs (a + f .width) (c .1))
+  copied-agree (f ∷ fs) a c = (agree-field a f (c .0), copied-agree fs (a + f .width) (c .1))
 
 -- ---- a whole table
 
@@ -316,7 +373,7 @@ module _ (b t : List ℕ) where
       let fs = fieldsAt b k p in
       let same = fields-again opsB opsT rd below p q fs c s in
       let fields : fs ≡ fieldsAt t k q = settled _ _ k (copied-agree opsB opsT b t p q fs 0 same) in
-      rw (← fields) (copied-ops opsB opsT b t p q fs 0 same)
+      rw (← fields) (copied-ops opsB opsT b t p q fs false 0 (all-tags k _) (λ z. absurd (let x : _≡_ {A = ℕ} 0 1 = cc in omega arith)) same)
 
   again-by : {opsB : ℕ → Kind → ℕ → List Op} {rd : ℕ → Kind → ℕ → Reading} (d : ℕ) → Children opsB (λ a. tableOps d t) rd t → (k : Kind) (p q : ℕ) → Clean (opsBy opsB b k p)
       → Shown t q (readingBy rd b k p) → tableOps (suc d) t k q ≡ opsBy opsB b k p
@@ -333,16 +390,17 @@ mode-again b t (suc d) m k p q c s =
 
 -- ---- the offsets of a table that was read have a width, since they are not zero
 
-follow-some : (r : Rule) (v : ℕ) (k : Kind) → byRule r v ≡ follow k → v ≡ 0 → ⊥
+follow-some : (r : Rule) (h : Kind) (v : ℕ) (k : Kind) → byRule r h v ≡ follow k → v ≡ 0 → ⊥
 unfolding byRule
-follow-some Any v k e z = let q : _≡_ {A = ℕ} 0 1 = cc in omega arith
-follow-some (Only x) v k e z = go (eqb v x) e
+follow-some Any h v k e z = let q : _≡_ {A = ℕ} 0 1 = cc in omega arith
+follow-some (Only x) h v k e z = go (eqb v x) e
   where
     go : (t : Bool) → pick t keep refuse ≡ follow k → ⊥
     go true e = let q : _≡_ {A = ℕ} 0 1 = cc in omega arith
     go false e = let q : _≡_ {A = ℕ} 0 1 = cc in omega arith
-follow-some (To j) v k e z = let q : _≡_ {A = ℕ} 0 1 = (let f : refuse ≡ follow k = rw (eq-eqb v 0 z) at e in cc) in omega arith
-follow-some (ToOrNull j) v k e z = let q : _≡_ {A = ℕ} 0 1 = (let f : keep ≡ follow k = rw (eq-eqb v 0 z) at e in cc) in omega arith
+follow-some (To j) h v k e z = let q : _≡_ {A = ℕ} 0 1 = (let f : refuse ≡ follow k = rw (eq-eqb v 0 z) at e in cc) in omega arith
+follow-some (ToOrNull j) h v k e z = let q : _≡_ {A = ℕ} 0 1 = (let f : keep ≡ follow k = rw (eq-eqb v 0 z) at e in cc) in omega arith
+follow-some ToFeature h v k e z = let q : _≡_ {A = ℕ} 0 1 = (let f : refuse ≡ follow k = rw (eq-eqb v 0 z) at e in cc) in omega arith
 
 no-value : (b : List ℕ) (at w : ℕ) → w ≡ 0 → valueAt b at w ≡ 0
 unfolding readBytes
@@ -355,7 +413,7 @@ follow-wide b at f k e = go (f .width) refl
     room = act-room b at f (λ r. let z : _≡_ {A = ℕ} 0 1 = cc in omega arith)
 
     go : (w : ℕ) → f .width ≡ w → 0 < f .width
-    go zero z = absurd (follow-some (f .rule) (valueAt b at (f .width)) k (sym (act-rule b at f room) ∙ e) (no-value b at (f .width) z))
+    go zero z = absurd (follow-some (f .rule) (featureAt b at) (valueAt b at (f .width)) k (sym (act-rule b at f room) ∙ e) (no-value b at (f .width) z))
     go (suc w) z = omega arith
 
 module _ (b : List ℕ) where

@@ -5,7 +5,7 @@ use mathlib.Core.List.{List, [], _∷_, _++_, append-assoc, append-nil}
 use mathlib.Core.Bool.{Bool, true, false, _&&_}
 use mathlib.Core.Logic.{_⊎_, inl, inr, ⊎-elim}
 use native.Mathlib.Omega.{arith}
-use native.Mathlib.Nat.{zero-add, suc-mul}
+use native.Mathlib.Nat.{zero-add, sub-zero, suc-mul}
 use borrow.Author.Tests.{eq-eqb, ne-eqb, eqb-true, eqb-false, ltb-true}
 use lib.ListN.{length, getD, length-replicate, List·getD-append}
 use lib.Seq.{getD-append-add}
@@ -17,15 +17,15 @@ use Rattle.lists.proofs.Same.{and-left, and-right}
 use Rattle.big_endian.specs.BigEndian.{readFrom}
 use Rattle.model_orders.specs.Reading.{Reading}
 use Rattle.gsub.specs.declared.Kind.{Kind}
-use Rattle.gsub.specs.declared.Rule.{Rule}
-use Rattle.gsub.specs.declared.Rule.the-variants.{Any, Only, To, ToOrNull}
+use Rattle.gsub.specs.declared.Rule.the-variants.{To}
 use Rattle.gsub.specs.declared.Field.{Field}
-use Rattle.gsub.specs.Tables.{offset16, offset32, Run, one, many, often, laid, times, size, wordAt, longAt, fieldsAt}
+use Rattle.gsub.specs.Tables.{offset16, offset32, Times, once, count, before, marked, Run, Shape, one, many, often, laid, times, size, wordAt, longAt, fieldsAt}
 use Rattle.gsub.specs.Ops.{Act, keep, follow, refuse, valueAt, byRule, act, Op, link, end, actOps, fieldsOps, opsBy}
 use Rattle.gsub.specs.Meaning.{actBytes, ownBytes, actReading, fieldsReading, readingBy}
 use Rattle.gsub.specs.Substitute.{wordOf, childOf, wordFrom, childFrom, farFrom}
 use Rattle.gsub.proofs.Accepted.{act-room}
-use Rattle.gsub.proofs.Again.{Clean, clean-left, clean-right, bytes-of}
+use Rattle.gsub.proofs.Settled.{plainRule, plainAt, isOnce, frontPlain}
+use Rattle.gsub.proofs.Again.{Clean, clean-left, clean-right, plain-kept, bytes-of}
 
 -- ---- the field at a byte
 
@@ -95,28 +95,48 @@ offset w k = record { width = w; rule = To k }
 
 -- ---- numbers in plain fields
 
-unfoldable pub PlainRule : Rule → Type 0
-PlainRule Any = Unit {0}
-PlainRule (Only v) = Unit {0}
-PlainRule (To k) = ⊥
-PlainRule (ToOrNull k) = ⊥
-
 -- 16 bits that are no offset
 abbrev pub Plain : Field → Type 0
-Plain f = (f .width ≡ 2) × PlainRule (f .rule)
+Plain f = (f .width ≡ 2) × (plainRule (f .rule) ≡ true)
 
-pub plain-stays : (r : Rule) → PlainRule r → (t : Bool) (v : ℕ) (k : Kind) → pick t (byRule r v) refuse ≡ follow k → ⊥
-unfolding PlainRule byRule
-plain-stays Any h true v k e = let z : _≡_ {A = ℕ} 0 1 = cc in omega arith
-plain-stays Any h false v k e = let z : _≡_ {A = ℕ} 0 1 = cc in omega arith
-plain-stays (Only x) h false v k e = let z : _≡_ {A = ℕ} 0 1 = cc in omega arith
-plain-stays (Only x) h true v k e = go (eqb v x) e
+-- one in front of a table, by the test
+by-once : (word : ℕ → ℕ) (t : Times) (fs : List Field) (x : ℕ) → isOnce t ≡ true → From Plain x fs → From Plain x (times (often word 0 t) fs)
+unfolding often times
+by-once word once fs x i h = rw append-nil h
+by-once word (count at less) fs x i h = absurd (let q : _≡_ {A = ℕ} 0 1 = cc in omega arith)
+by-once word (before less) fs x i h = absurd (let q : _≡_ {A = ℕ} 0 1 = cc in omega arith)
+by-once word marked fs x i h = absurd (let q : _≡_ {A = ℕ} 0 1 = cc in omega arith)
+
+plain-below : (fs : List Field) (a x : ℕ) → plainAt x a fs ≡ true → a ≤ x
+unfolding plainAt
+plain-below [] a x h = absurd (let z : _≡_ {A = ℕ} 0 1 = cc in omega arith)
+plain-below (f ∷ fs) a x h = go (eqb x a) refl h (plain-below fs (a + f .width) x)
   where
-    go : (t : Bool) → pick t keep refuse ≡ follow k → ⊥
-    go true e = let z : _≡_ {A = ℕ} 0 1 = cc in omega arith
-    go false e = let z : _≡_ {A = ℕ} 0 1 = cc in omega arith
-plain-stays (To j) h t v k e = absurd h
-plain-stays (ToOrNull j) h t v k e = absurd h
+    go : (t : Bool) → eqb x a ≡ t → pick t (eqb (f .width) 2 && plainRule (f .rule)) (plainAt x (a + f .width) fs) ≡ true → (plainAt x (a + f .width) fs ≡ true → a + f .width ≤ x) → a ≤ x
+    go true e h later = omega (arith, eqb-true x a e)
+    go false e h later = omega (arith, later h)
+
+plain-from : (fs : List Field) (a x : ℕ) → plainAt x a fs ≡ true → From Plain (x - a) fs
+unfolding plainAt From
+plain-from [] a x h = absurd (let z : _≡_ {A = ℕ} 0 1 = cc in omega arith)
+plain-from (f ∷ fs) a x h = go (eqb x a) refl h (plain-from fs (a + f .width) x)
+  where
+    go : (t : Bool) → eqb x a ≡ t → pick t (eqb (f .width) 2 && plainRule (f .rule)) (plainAt x (a + f .width) fs) ≡ true
+        → (plainAt x (a + f .width) fs ≡ true → From Plain (x - (a + f .width)) fs) → pick (eqb (x - a) 0) (Plain f) ((f .width ≤ x - a) × From Plain (x - a - f .width) fs)
+    go true e h later =
+        let z : x - a ≡ 0 = omega (arith, eqb-true x a e) in
+        rw z (eqb-true (f .width) 2 (and-left (eqb (f .width) 2) _ h), and-right (eqb (f .width) 2) _ h)
+    go false e h later =
+        let l = plain-below fs (a + f .width) x h in
+        let w : x - a - f .width ≡ x - (a + f .width) = omega arith in
+        let n : eqb (x - a) 0 ≡ false = ne-eqb (x - a) 0 (λ z. eqb-false x a e (omega arith)) in
+        rw (n, w) (omega arith, later h)
+
+pub plain-front : (word : ℕ → ℕ) (x : ℕ) (s : Shape) → frontPlain x s ≡ true → From Plain x (laid word 0 s)
+unfolding frontPlain laid
+plain-front word x [] h = absurd (let z : _≡_ {A = ℕ} 0 1 = cc in omega arith)
+plain-front word x (r ∷ rs) h =
+    from-front Plain _ _ x (by-once word (r .by) (r .each) x (and-left (isOnce (r .by)) _ h) (rw (sub-zero x) at (plain-from (r .each) 0 x (and-right (isOnce (r .by)) _ h))))
 
 word-later : (vs own : List ℕ) (w x : ℕ) → length vs ≡ w → w ≤ x → wordAt (vs ++ own) x ≡ wordAt own (x - w)
 word-later vs own w x e h =
@@ -165,9 +185,9 @@ module _ (ops : ℕ → Kind → ℕ → List Op) (b : List ℕ) (p : ℕ) where
     long refuse e c = absurd c
 
     word-here : (own : List ℕ) → Plain f → (y : Act) → act b (p + a) f ≡ y → Clean (actOps (ops a) b p a (f .width) y ++ rest) → wordAt (actBytes b (p + a) (f .width) y ++ own) 0 ≡ wordAt b (p + a)
-    unfolding actOps actBytes Clean act
+    unfolding actOps actBytes Clean
     word-here own h keep e c = rw (h .0) (word-first b own (p + a) (rw (h .0) at (room keep e c)))
-    word-here own h (follow k) e c = absurd (plain-stays (f .rule) (h .1) (leb (p + a + f .width) (length b)) (valueAt b (p + a) (f .width)) k e)
+    word-here own h (follow k) e c = absurd (plain-kept b (p + a) f (h .1) k e)
     word-here own h refuse e c = absurd c
 
   words-same : (fs : List Field) (a x : ℕ) → Clean (fieldsOps ops b p a fs) → From Plain x fs → wordAt (ownBytes b p a fs) x ≡ wordAt b (p + (a + x))

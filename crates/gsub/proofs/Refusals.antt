@@ -10,15 +10,16 @@ use lib.ListN.{length}
 use lib.Dec.{eqb, leb}
 use Rattle.lists.specs.Lists.{pick, Exactly}
 use Rattle.lists.proofs.Same.{and-left, and-right}
+use Rattle.gsub.specs.declared.Scope.{Scope}
 use Rattle.gsub.specs.declared.Kind.{Kind}
 use Rattle.gsub.specs.declared.Kind.the-variants.{Header}
 use Rattle.gsub.specs.declared.Rule.{Rule}
-use Rattle.gsub.specs.declared.Rule.the-variants.{Any, Only, To, ToOrNull}
+use Rattle.gsub.specs.declared.Rule.the-variants.{Any, Only, To, ToOrNull, ToFeature}
 use Rattle.gsub.specs.declared.Field.{Field}
 use Rattle.gsub.specs.Tables.{fieldsAt}
-use Rattle.gsub.specs.Ops.{Act, keep, follow, refuse, byRule, valueAt, act, Op, begin, link, end, stop, actOps, fieldsOps, tableOps}
+use Rattle.gsub.specs.Ops.{Act, keep, follow, refuse, byRule, valueAt, featureAt, act, Op, begin, link, end, stop, actOps, fieldsOps, tableOps}
 use Rattle.gsub.specs.Meaning.{deepest}
-use Rattle.gsub.specs.Refusals.{Bad, passes, another, null, FieldAt, here, there, Met, header, child, BadAt}
+use Rattle.gsub.specs.Refusals.{Bad, passes, another, null, null-feature, FieldAt, here, there, Met, header, child, BadAt}
 use Rattle.gsub.proofs.Depth.{rank, some-rank, within, allWithin, within-fields, act-within, more-within, deeper}
 
 -- ---- one field
@@ -27,7 +28,19 @@ module _ (b : List ℕ) (at : ℕ) (f : Field) where
   abbrev value : ℕ
   value = valueAt b at (f .width)
 
-  by-rule : (r : Rule) → f .rule ≡ r → byRule r value ≡ refuse → Bad b at f
+  abbrev feature : Kind
+  feature = featureAt b at
+
+  -- an offset that may not be NULL
+  null-refused : (k : Kind) → byRule (To k) feature value ≡ refuse → value ≡ 0
+  unfolding byRule
+  null-refused k e = go (eqb value 0) refl e
+    where
+      go : (t : Bool) → eqb value 0 ≡ t → pick t refuse (follow k) ≡ refuse → value ≡ 0
+      go true z e = eqb-true value 0 z
+      go false z e = absurd (let z : _≡_ {A = ℕ} 0 1 = cc in omega arith)
+
+  by-rule : (r : Rule) → f .rule ≡ r → byRule r feature value ≡ refuse → Bad b at f
   unfolding byRule
   by-rule Any q e = absurd (let z : _≡_ {A = ℕ} 0 1 = cc in omega arith)
   by-rule (Only x) q e = go (eqb value x) refl e
@@ -35,38 +48,36 @@ module _ (b : List ℕ) (at : ℕ) (f : Field) where
       go : (t : Bool) → eqb value x ≡ t → pick t keep refuse ≡ refuse → Bad b at f
       go true z e = absurd (let z : _≡_ {A = ℕ} 0 1 = cc in omega arith)
       go false z e = another x q (eqb-false value x z)
-  by-rule (To k) q e = go (eqb value 0) refl e
-    where
-      go : (t : Bool) → eqb value 0 ≡ t → pick t refuse (follow k) ≡ refuse → Bad b at f
-      go true z e = null k q (eqb-true value 0 z)
-      go false z e = absurd (let z : _≡_ {A = ℕ} 0 1 = cc in omega arith)
+  by-rule (To k) q e = null k q (null-refused k e)
   by-rule (ToOrNull k) q e = absurd (go (eqb value 0) e)
     where
       go : (t : Bool) → pick t keep (follow k) ≡ refuse → ⊥
       go true e = let z : _≡_ {A = ℕ} 0 1 = cc in omega arith
       go false e = let z : _≡_ {A = ℕ} 0 1 = cc in omega arith
+  by-rule ToFeature q e = null-feature q (null-refused feature e)
 
   refused-bad : act b at f ≡ refuse → Bad b at f
   unfolding act
   refused-bad e = go (leb (at + f .width) (length b)) refl e
     where
-      go : (t : Bool) → leb (at + f .width) (length b) ≡ t → pick t (byRule (f .rule) value) refuse ≡ refuse → Bad b at f
+      go : (t : Bool) → leb (at + f .width) (length b) ≡ t → pick t (byRule (f .rule) feature value) refuse ≡ refuse → Bad b at f
       go true z e = by-rule (f .rule) refl e
       go false z e = passes (leb-false (at + f .width) (length b) z)
+
+  by-its-rule : byRule (f .rule) feature value ≡ refuse → act b at f ≡ refuse
+  unfolding act
+  by-its-rule e = go (leb (at + f .width) (length b))
+    where
+      go : (t : Bool) → pick t (byRule (f .rule) feature value) refuse ≡ refuse
+      go true = e
+      go false = refl
 
   bad-refused : Bad b at f → act b at f ≡ refuse
   unfolding act byRule
   bad-refused (passes h) = rw (lt-leb (at + f .width) (length b) h)
-  bad-refused (another v q n) = go (leb (at + f .width) (length b))
-    where
-      go : (t : Bool) → pick t (byRule (f .rule) value) refuse ≡ refuse
-      go true = rw (q, ne-eqb value v n)
-      go false = refl
-  bad-refused (null k q z) = go (leb (at + f .width) (length b))
-    where
-      go : (t : Bool) → pick t (byRule (f .rule) value) refuse ≡ refuse
-      go true = rw (q, eq-eqb value 0 z)
-      go false = refl
+  bad-refused (another v q n) = by-its-rule (rw (q, ne-eqb value v n))
+  bad-refused (null k q z) = by-its-rule (rw (q, eq-eqb value 0 z))
+  bad-refused (null-feature q z) = by-its-rule (rw (q, eq-eqb value 0 z))
 
   pub refused-exactly : Exactly (act b at f ≡ refuse) (Bad b at f)
   refused-exactly = record { only = refused-bad; when = bad-refused }
@@ -77,7 +88,7 @@ stands-within n f _ _ (there {a = a} {g = g} {fs = fs} s) h = stands-within n f 
 
 -- ---- the stops among the ops of a table
 
-module _ (b : List ℕ) where
+module _ (scope : Scope) (b : List ℕ) where
   abbrev Has : Op → List Op → Type 0
   Has o ops = List·Memᴰ o ops
 
@@ -88,24 +99,24 @@ module _ (b : List ℕ) where
       go (inl e) = n e
       go (inr h) = List·Memᴰ·not-nil h
 
-  module _ {place : ℕ} (n : ℕ) (k : Kind) (p : ℕ) (met : Met b k p) (below : (j : Kind) (q : ℕ) → rank j ≤ n → Met b j q → Has (stop place) (tableOps n b j q) → BadAt b place) where
-    act-bad : (a : ℕ) (f : Field) → FieldAt f a (fieldsAt b k p) → within n (f .rule) ≡ true → (y : Act) → act b (p + a) f ≡ y → Has (stop place) (actOps (tableOps n b) b p a (f .width) y) → BadAt b place
+  module _ {place : ℕ} (n : ℕ) (k : Kind) (p : ℕ) (met : Met scope b k p) (below : (j : Kind) (q : ℕ) → rank j ≤ n → Met scope b j q → Has (stop place) (tableOps n b j q) → BadAt scope b place) where
+    act-bad : (a : ℕ) (f : Field) → FieldAt f a (fieldsAt b k p) → within n (f .rule) ≡ true → (y : Act) → act b (p + a) f ≡ y → Has (stop place) (actOps (tableOps n b) b p a (f .width) y) → BadAt scope b place
     unfolding actOps
     act-bad a f s h keep e m = absurd (none-but (λ z. let q : _≡_ {A = ℕ} 0 1 = cc in omega arith) m)
     act-bad a f s h (follow j) e m = go (List·Memᴰ·append-cases (tableOps n b j (p + valueAt b (p + a) (f .width))) m)
       where
-        go : Has (stop place) (tableOps n b j (p + valueAt b (p + a) (f .width))) ⊎ Has (stop place) (link (f .width) ∷ []) → BadAt b place
+        go : Has (stop place) (tableOps n b j (p + valueAt b (p + a) (f .width))) ⊎ Has (stop place) (link (f .width) ∷ []) → BadAt scope b place
         go (inl i) = below j _ (act-within n b (p + a) f j h e) (child met s e) i
         go (inr i) = absurd (none-but (λ z. let q : _≡_ {A = ℕ} 0 1 = cc in omega arith) i)
     act-bad a f s h refuse e m = go (List·Memᴰ·cases-cons m)
       where
-        go : (stop place ≡ stop (p + a)) ⊎ Has (stop place) [] → BadAt b place
+        go : (stop place ≡ stop (p + a)) ⊎ Has (stop place) [] → BadAt scope b place
         go (inl z) =
             let q : place ≡ p + a = cc in
             record { kind = k; table = p; met = met; at = a; field = f; stands = s; place-is = q; bad = rw q (refused-bad b (p + a) f e) }
         go (inr i) = absurd (List·Memᴰ·not-nil i)
 
-    fields-bad : (fs : List Field) (a : ℕ) → ((f : Field) (c : ℕ) → FieldAt f c fs → FieldAt f (a + c) (fieldsAt b k p)) → allWithin n fs ≡ true → Has (stop place) (fieldsOps (λ a. tableOps n b) b p a fs) → BadAt b place
+    fields-bad : (fs : List Field) (a : ℕ) → ((f : Field) (c : ℕ) → FieldAt f c fs → FieldAt f (a + c) (fieldsAt b k p)) → allWithin n fs ≡ true → Has (stop place) (fieldsOps (λ a. tableOps n b) b p a fs) → BadAt scope b place
     unfolding fieldsOps
     fields-bad [] a s h m = absurd (List·Memᴰ·not-nil m)
     fields-bad (f ∷ fs) a s h m =
@@ -118,11 +129,11 @@ module _ (b : List ℕ) where
         Later : Type 0
         Later = Has (stop place) (fieldsOps (λ a. tableOps n b) b p (a + f .width) fs)
 
-        go : (Later → BadAt b place) → Has (stop place) (actOps (tableOps n b) b p a (f .width) (act b (p + a) f)) ⊎ Later → BadAt b place
+        go : (Later → BadAt scope b place) → Has (stop place) (actOps (tableOps n b) b p a (f .width) (act b (p + a) f)) ⊎ Later → BadAt scope b place
         go later (inl i) = let z : a + 0 ≡ a = omega arith in act-bad a f (rw z at (s f 0 here)) (and-left (within n (f .rule)) _ h) (act b (p + a) f) refl i
         go later (inr i) = later i
 
-  stop-bad : {place : ℕ} (n : ℕ) (k : Kind) (p : ℕ) → rank k ≤ n → Met b k p → Has (stop place) (tableOps n b k p) → BadAt b place
+  stop-bad : {place : ℕ} (n : ℕ) (k : Kind) (p : ℕ) → rank k ≤ n → Met scope b k p → Has (stop place) (tableOps n b k p) → BadAt scope b place
   unfolding tableOps
   stop-bad zero k p h met m = absurd (omega (arith, some-rank k))
   stop-bad {place} (suc n) k p h met m =
@@ -132,11 +143,11 @@ module _ (b : List ℕ) where
       fields : List Op
       fields = fieldsOps (λ a. tableOps n b) b p 0 (fieldsAt b k p)
 
-      last : (Has (stop place) fields → BadAt b place) → Has (stop place) fields ⊎ Has (stop place) (end ∷ []) → BadAt b place
+      last : (Has (stop place) fields → BadAt scope b place) → Has (stop place) fields ⊎ Has (stop place) (end ∷ []) → BadAt scope b place
       last among (inl i) = among i
       last among (inr i) = absurd (none-but (λ z. let q : _≡_ {A = ℕ} 0 1 = cc in omega arith) i)
 
-      go : (Has (stop place) fields → BadAt b place) → (stop place ≡ begin) ⊎ Has (stop place) (fields ++ (end ∷ [])) → BadAt b place
+      go : (Has (stop place) fields → BadAt scope b place) → (stop place ≡ begin) ⊎ Has (stop place) (fields ++ (end ∷ [])) → BadAt scope b place
       go among (inl z) = absurd (let q : _≡_ {A = ℕ} 0 1 = cc in omega arith)
       go among (inr i) = last among (List·Memᴰ·append-cases fields i)
 
@@ -162,7 +173,7 @@ module _ (b : List ℕ) where
       let z : 0 + a ≡ a = omega arith in
       rw (← e) (List·Memᴰ·tail (Memᴰ·append-left (end ∷ []) (has-field (λ a. tableOps n b) p f a (fieldsAt b k p) s 0 (rw z m))))
 
-  met-has : {o : Op} (k : Kind) (p : ℕ) → Met b k p → Has o (tableOps (rank k) b k p) → Has o (tableOps deepest b Header 0)
+  met-has : {o : Op} (k : Kind) (p : ℕ) → Met scope b k p → Has o (tableOps (rank k) b k p) → Has o (tableOps deepest b (Header scope) 0)
   unfolding actOps
   met-has _ _ header m = m
   met-has {o} _ _ (child {k = k} {j = j} {p = p} {a = a} {f = f} met s e) m =
@@ -173,7 +184,7 @@ module _ (b : List ℕ) where
       let same : tableOps n b j q ≡ tableOps (rank j) b j q = ap (λ x. tableOps x b j q) d ∙ deep (n - rank j) (rank j) j q (omega arith) in
       met-has k p met (in-table n k p a f (omega (arith, some-rank k)) s (rw e (Memᴰ·append-left {s = tableOps n b j q} (link (f .width) ∷ []) (rw same m))))
 
-  bad-stop : {place : ℕ} → BadAt b place → Has (stop place) (tableOps deepest b Header 0)
+  bad-stop : {place : ℕ} → BadAt scope b place → Has (stop place) (tableOps deepest b (Header scope) 0)
   unfolding actOps
   bad-stop t =
       let n = rank (t .kind) - 1 in
@@ -182,5 +193,5 @@ module _ (b : List ℕ) where
       (in-table n (t .kind) (t .table) (t .at) (t .field) (omega (arith, some-rank (t .kind))) (t .stands) (rw e (List·Memᴰ·head (ap stop (t .place-is)))))
 
   -- a read stops nowhere else than at a bad field of a table that it comes to, and at each of these
-  pub stops-exactly : (place : ℕ) → Exactly (List·Memᴰ (stop place) (tableOps deepest b Header 0)) (BadAt b place)
-  stops-exactly place = record { only = stop-bad deepest Header 0 (omega arith) header; when = bad-stop }
+  pub stops-exactly : (place : ℕ) → Exactly (List·Memᴰ (stop place) (tableOps deepest b (Header scope) 0)) (BadAt scope b place)
+  stops-exactly place = record { only = stop-bad deepest (Header scope) 0 (omega arith) header; when = bad-stop }

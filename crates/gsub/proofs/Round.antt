@@ -10,6 +10,7 @@ use Rattle.model.proofs.Closings.{known-equal}
 use Rattle.steps.specs.Runs.{StoreCall}
 use Rattle.steps.specs.Runs as calls
 use Rattle.steps.specs.Mirrored.{Step, byHistory}
+use Rattle.gsub.specs.declared.Scope.{Scope}
 use Rattle.gsub.specs.declared.Kind.the-variants.{Header}
 use Rattle.gsub.specs.Ops.{Op, begin, put, link, end, stop, tableOps, Outcome, goOn, perform}
 use Rattle.gsub.specs.Meaning.{deepest, gsubReading}
@@ -35,7 +36,7 @@ module _ {S : Type 0} (call : StoreCall → S → Step S) where
 
 -- ---- the same ops give the same reading
 
-module _ (n : Needs) (store records : ℕ) (h : History) where
+module _ (scope : Scope) (n : Needs) (store records : ℕ) (h : History) where
   abbrev made : List Op → Outcome History
   made ops = perform (byHistory n store records) ops 0 h
 
@@ -45,24 +46,24 @@ module _ (n : Needs) (store records : ℕ) (h : History) where
 
   -- t is read by these ops, and reads r
   pub record Again (ops : List Op) (r : Reading) (t : List ℕ) : Type 0 where
-    pub ops-same : tableOps deepest t Header 0 ≡ ops
-    pub reading : gsubReading t ≡ r
+    pub ops-same : tableOps deepest t (Header scope) 0 ≡ ops
+    pub reading : gsubReading scope t ≡ r
 
-  reading-again : {ops : List Op} {r : Reading} (t : List ℕ) → ReadsAs n store records ops r → made ops .number ≡ 0 → tableOps deepest t Header 0 ≡ ops → Again ops r t
+  reading-again : {ops : List Op} {r : Reading} (t : List ℕ) → ReadsAs n store records ops r → made ops .number ≡ 0 → tableOps deepest t (Header scope) 0 ≡ ops → Again ops r t
   reading-again t f z e = record {
     ops-same = e;
-    reading = reading-is (table-reads n store records deepest t Header 0) (ap (λ l. made l .number) e ∙ z)
+    reading = reading-is (table-reads n store records deepest t (Header scope) 0) (ap (λ l. made l .number) e ∙ z)
         ∙ ap (λ l. readingAt (made l .next .closed) (made l .id)) e
         ∙ sym (reading-is f z);
   }
 
   -- b was read in any mode
-  pub mode-read-again : (m : Mode) (b t : List ℕ) → let ops = modeOps deepest b m Header 0 in let r = modeReading deepest b m Header 0 in
+  pub mode-read-again : (m : Mode) (b t : List ℕ) → let ops = modeOps deepest b m (Header scope) 0 in let r = modeReading deepest b m (Header scope) 0 in
       made ops .number ≡ 0 → Shows t 0 r → (Wide r → Apart t 0 r) → Again ops r t
   mode-read-again m b t z s a =
-      let c = clean-done (byHistory n store records) (modeOps deepest b m Header 0) 0 h z in
-      reading-again t (mode-reads n store records deepest b m Header 0) z (mode-again b t deepest m Header 0 0 c (record { own = s .0; fields = s .1; apart = a (wide-mode deepest b m Header 0) }))
+      let c = clean-done (byHistory n store records) (modeOps deepest b m (Header scope) 0) 0 h z in
+      reading-again t (mode-reads n store records deepest b m (Header scope) 0) z (mode-again b t deepest m (Header scope) 0 0 c (record { own = s .0; fields = s .1; apart = a (wide-mode deepest b m (Header scope) 0) }))
 
-  pub read-again : (b t : List ℕ) → made (tableOps deepest b Header 0) .number ≡ 0 → Shows t 0 (gsubReading b) → (Wide (gsubReading b) → Apart t 0 (gsubReading b))
-      → Again (tableOps deepest b Header 0) (gsubReading b) t
+  pub read-again : (b t : List ℕ) → made (tableOps deepest b (Header scope) 0) .number ≡ 0 → Shows t 0 (gsubReading scope b) → (Wide (gsubReading scope b) → Apart t 0 (gsubReading scope b))
+      → Again (tableOps deepest b (Header scope) 0) (gsubReading scope b) t
   read-again b t = rw (plain-ops deepest b, plain-reading deepest b) at (mode-read-again plain b t)

@@ -10,11 +10,11 @@ use lib.Dec.{eqb}
 use Rattle.lists.specs.Lists.{pick}
 use Rattle.lists.proofs.Same.{and-left, and-right}
 use Rattle.gsub.specs.declared.Kind.{Kind}
-use Rattle.gsub.specs.declared.Kind.the-variants.{Header, ScriptList, Script, LangSys, FeatureList, Feature, LookupList, Lookup, Extension, SingleSubst, Coverage}
 use Rattle.gsub.specs.declared.Rule.{Rule}
-use Rattle.gsub.specs.declared.Rule.the-variants.{Any, Only, To, ToOrNull}
+use Rattle.gsub.specs.declared.Rule.the-variants.{Any, Only, To, ToOrNull, ToFeature}
 use Rattle.gsub.specs.declared.Field.{Field}
-use Rattle.gsub.specs.Tables.{Times, once, count, before, marked, Run, Shape, often, laid, shape, times, size, fieldsOf, lookup1, lookup7, singleSubst1, singleSubst2, coverage1, coverage2}
+use Rattle.gsub.specs.Tables.{Times, once, count, before, marked, Run, Shape, often, laid, Formats, only, byFirst, bySecond, byNumber, chosen, formats, shape, times, size, fieldsOf}
+use Rattle.gsub.proofs.Formats.{kinds, ofAll, everyKind, every-kind, eachShape, by-number, every-shape}
 
 -- of a field that is no offset
 unfoldable pub Plain : Rule → Type 0 → Type 0
@@ -22,6 +22,7 @@ Plain Any T = T
 Plain (Only x) T = T
 Plain (To k) T = Unit {0}
 Plain (ToOrNull k) T = Unit {0}
+Plain ToFeature T = Unit {0}
 
 -- w and u have the same numbers in the plain fields of two bytes from a on
 unfoldable pub Agree : (ℕ → ℕ) → (ℕ → ℕ) → ℕ → List Field → Type 0
@@ -30,17 +31,18 @@ Agree w u a (f ∷ fs) = Plain (f .rule) (f .width ≡ 2 → w a ≡ u a) × Agr
 
 -- ---- runs whose counts stand in plain fields before them
 
-abbrev plainRule : Rule → Bool
+abbrev pub plainRule : Rule → Bool
 plainRule Any = true
 plainRule (Only x) = true
 plainRule (To k) = false
 plainRule (ToOrNull k) = false
+plainRule ToFeature = false
 
 abbrev plain : Field → Bool
 plain f = eqb (f .width) 2 && plainRule (f .rule)
 
 -- a plain field stands at x, of those from a on
-unfoldable plainAt : ℕ → ℕ → List Field → Bool
+unfoldable pub plainAt : ℕ → ℕ → List Field → Bool
 plainAt x a [] = false
 plainAt x a (f ∷ fs) = pick (eqb x a) (plain f) (plainAt x (a + f .width) fs)
 
@@ -49,7 +51,7 @@ endsPlain [] = false
 endsPlain (f ∷ []) = plain f
 endsPlain (f ∷ g ∷ fs) = endsPlain (g ∷ fs)
 
-abbrev isOnce : Times → Bool
+abbrev pub isOnce : Times → Bool
 isOnce once = true
 isOnce (count at less) = false
 isOnce (before less) = false
@@ -72,7 +74,7 @@ sure [] = true
 sure (r ∷ rs) = isOnce (r .by) && stands (r .each) (endsPlain (r .each)) rs
 
 -- a plain field stands at x in front
-unfoldable frontPlain : ℕ → Shape → Bool
+unfoldable pub frontPlain : ℕ → Shape → Bool
 frontPlain x [] = false
 frontPlain x (r ∷ rs) = isOnce (r .by) && plainAt x 0 (r .each)
 
@@ -107,6 +109,7 @@ module _ (w u : ℕ → ℕ) where
   plain-gives (Only x) n p g = g (eqb-true n 2 (and-left (eqb n 2) true p))
   plain-gives (To k) n p g = let z = and-right (eqb n 2) false p in absurd (let q : _≡_ {A = ℕ} 0 1 = cc in omega arith)
   plain-gives (ToOrNull k) n p g = let z = and-right (eqb n 2) false p in absurd (let q : _≡_ {A = ℕ} 0 1 = cc in omega arith)
+  plain-gives ToFeature n p g = let z = and-right (eqb n 2) false p in absurd (let q : _≡_ {A = ℕ} 0 1 = cc in omega arith)
 
   at-same : (fs : List Field) (a x : ℕ) → Agree w u a fs → plainAt x a fs ≡ true → w x ≡ u x
   unfolding Agree plainAt
@@ -196,40 +199,26 @@ module _ (w u : ℕ → ℕ) where
 
 -- ---- every table is such
 
-pub by-two : (P : Shape → Bool) (t : Bool) (a b : Shape) → P a ≡ true → P b ≡ true → P (pick t a b) ≡ true
-by-two P true a b e f = e
-by-two P false a b e f = f
-
 all-sure : (k : Kind) (first second : ℕ) → sure (shape k first second) ≡ true
-unfolding shape sure stands endsPlain plainAt
-all-sure Header first second = refl
-all-sure ScriptList first second = refl
-all-sure Script first second = refl
-all-sure LangSys first second = refl
-all-sure FeatureList first second = refl
-all-sure Feature first second = refl
-all-sure LookupList first second = refl
-all-sure Lookup first second = by-two sure (eqb first 1) lookup1 lookup7 refl refl
-all-sure Extension first second = refl
-all-sure SingleSubst first second = by-two sure (eqb first 1) singleSubst1 singleSubst2 refl refl
-all-sure Coverage first second = by-two sure (eqb first 1) coverage1 coverage2 refl refl
+unfolding everyKind ofAll kinds eachShape formats sure stands endsPlain plainAt
+all-sure = every-shape (λ k. sure) refl
+
+-- the number that chooses a table's format stands in a plain field of each
+abbrev chooser : Formats → Bool
+chooser (only s) = true
+chooser (byFirst ss) = eachShape (frontPlain 0) ss
+chooser (bySecond from ss) = eachShape (frontPlain 2) ss
+
+all-choose : (k : Kind) → chooser (formats k) ≡ true
+unfolding everyKind ofAll kinds eachShape formats frontPlain plainAt
+all-choose = every-kind (λ k. chooser (formats k)) refl
 
 module _ (w u : ℕ → ℕ) where
-  -- the shape itself, chosen by fields that are plain
-  same-chosen : (k : Kind) → Agree w u 0 (fieldsOf k w) → shape k (w 0) (w 2) ≡ shape k (u 0) (u 2)
-  unfolding fieldsOf shape frontPlain plainAt
-  same-chosen Header h = refl
-  same-chosen ScriptList h = refl
-  same-chosen Script h = refl
-  same-chosen LangSys h = refl
-  same-chosen FeatureList h = refl
-  same-chosen Feature h = refl
-  same-chosen LookupList h = refl
-  same-chosen Lookup h = ap (λ z. shape Lookup z (w 2)) (same-at w u 0 (shape Lookup (w 0) (w 2)) (by-two (frontPlain 0) (eqb (w 0) 1) lookup1 lookup7 refl refl) h)
-  same-chosen Extension h = refl
-  same-chosen SingleSubst h = ap (λ z. shape SingleSubst z (w 2)) (same-at w u 0 (shape SingleSubst (w 0) (w 2)) (by-two (frontPlain 0) (eqb (w 0) 1) singleSubst1 singleSubst2 refl refl) h)
-  same-chosen Coverage h = ap (λ z. shape Coverage z (w 2)) (same-at w u 0 (shape Coverage (w 0) (w 2)) (by-two (frontPlain 0) (eqb (w 0) 1) coverage1 coverage2 refl refl) h)
+  same-chosen : (f : Formats) → chooser f ≡ true → Agree w u 0 (laid w 0 (chosen f (w 0) (w 2))) → chosen f (w 0) (w 2) ≡ chosen f (u 0) (u 2)
+  same-chosen (only s) c h = refl
+  same-chosen (byFirst ss) c h = ap (λ z. byNumber z 1 ss) (same-at w u 0 _ (by-number (frontPlain 0) (w 0) 1 ss c) h)
+  same-chosen (bySecond from ss) c h = ap (λ z. byNumber z from ss) (same-at w u 2 _ (by-number (frontPlain 2) (w 2) from ss c) h)
 
   pub settled : (k : Kind) → Agree w u 0 (fieldsOf k w) → fieldsOf k w ≡ fieldsOf k u
   unfolding fieldsOf
-  settled k h = same-shape w u (shape k (w 0) (w 2)) (all-sure k (w 0) (w 2)) h ∙ ap (λ s. laid u 0 s) (same-chosen k h)
+  settled k h = same-shape w u (shape k (w 0) (w 2)) (all-sure k (w 0) (w 2)) h ∙ ap (λ s. laid u 0 s) (same-chosen (formats k) (all-choose k) h)

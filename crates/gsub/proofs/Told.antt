@@ -24,18 +24,19 @@ use Rattle.model.proofs.Closings.{known-closed}
 use Rattle.steps.specs.Runs.{StoreCall, asCall}
 use Rattle.steps.specs.Runs as calls
 use Rattle.steps.specs.Mirrored.{Step, byHistory}
+use Rattle.gsub.specs.declared.Scope.{Scope}
 use Rattle.gsub.specs.declared.Kind.{Kind}
 use Rattle.gsub.specs.declared.Field.{Field}
-use Rattle.gsub.specs.declared.Kind.the-variants.{Header, ScriptList, Script, LangSys, FeatureList, Feature, LookupList, Lookup, Extension, SingleSubst, Coverage}
-use Rattle.gsub.specs.Tables.{shape, fieldsOf, wordAt, fieldsAt, lookup1, lookup7, singleSubst1, singleSubst2, coverage1, coverage2}
+use Rattle.gsub.specs.declared.Kind.the-variants.{Header}
+use Rattle.gsub.specs.Tables.{formats, shape, fieldsOf, wordAt, fieldsAt}
 use Rattle.gsub.specs.Meaning.{deepest}
-use Rattle.gsub.proofs.Settled.{by-two}
+use Rattle.gsub.proofs.Formats.{kinds, ofAll, everyKind, eachShape, every-shape}
 use Rattle.gsub.specs.Ops.{Act, keep, follow, refuse, valueAt, act, Op, begin, put, link, end, actOps, fieldsOps, opsBy, Outcome, outcome, goOn, perform}
 use Rattle.gsub.specs.Refusals.{tellable}
 use Rattle.gsub.specs.Promote.{Mode, bytesIn, placeIn, childMode, childPlace, modeOps}
 use Rattle.gsub.proofs.Grows.{size-put, size-link}
 use Rattle.gsub.proofs.Accepted.{act-room}
-use Rattle.gsub.proofs.Fields.{allFields, allRuns, all-laid, has-first}
+use Rattle.gsub.proofs.Fields.{allFields, allRuns, all-laid, fields-join, has-first}
 
 -- ---- which number a call's tests tell
 
@@ -75,23 +76,13 @@ close-tells m t size hopeless twin k d o (next e (next g (next h (next i (next j
 abbrev fieldOk : Field → Bool
 fieldOk f = widthOk (f .width)
 
-shape-ok : (k : Kind) (first second : ℕ) → allRuns fieldOk (shape k first second) ≡ true
-unfolding shape allRuns
-shape-ok Header first second = refl
-shape-ok ScriptList first second = refl
-shape-ok Script first second = refl
-shape-ok LangSys first second = refl
-shape-ok FeatureList first second = refl
-shape-ok Feature first second = refl
-shape-ok LookupList first second = refl
-shape-ok Lookup first second = by-two (allRuns fieldOk) (eqb first 1) lookup1 lookup7 refl refl
-shape-ok Extension first second = refl
-shape-ok SingleSubst first second = by-two (allRuns fieldOk) (eqb first 1) singleSubst1 singleSubst2 refl refl
-shape-ok Coverage first second = by-two (allRuns fieldOk) (eqb first 1) coverage1 coverage2 refl refl
+shape-ok : (k : Kind) (first second : ℕ) → allRuns (allFields fieldOk) (shape k first second) ≡ true
+unfolding everyKind ofAll kinds eachShape formats allRuns
+shape-ok = every-shape (λ k. allRuns (allFields fieldOk)) refl
 
 all-ok : (k : Kind) (w : ℕ → ℕ) → allFields fieldOk (fieldsOf k w) ≡ true
 unfolding fieldsOf
-all-ok k w = all-laid fieldOk w (shape k (w 0) (w 2)) 0 (shape-ok k (w 0) (w 2))
+all-ok k w = all-laid (allFields fieldOk) (fields-join fieldOk) w (shape k (w 0) (w 2)) 0 (shape-ok k (w 0) (w 2))
 
 -- ---- calls on the history
 
@@ -234,8 +225,8 @@ module _ (n : Needs) (store records : ℕ) where
       table-fine _ (bytesIn b m p) (placeIn m p) d (λ a j q. mode-fine e b (childMode b m p a j q) j (childPlace m p q) (suc d) (omega arith)) (omega arith) k
 
   -- with nothing open at first, and nothing behind it
-  pub tells-few : (b : List ℕ) (m : Mode) (limits : Limits) → tellable (perform call (modeOps deepest b m Header 0) 0 (begun limits) .number) ≡ true
+  pub tells-few : (s : Scope) (b : List ℕ) (m : Mode) (limits : Limits) → tellable (perform call (modeOps deepest b m (Header s) 0) 0 (begun limits) .number) ≡ true
   unfolding perform tellable
-  tells-few b m limits =
-      ap (λ (x : List Op). tellable (perform call x 0 (begun limits) .number)) (sym (append-nil (modeOps deepest b m Header 0)))
-      ∙ mode-fine deepest b m Header 0 0 (omega arith) [] (λ i h e k. refl) 0 (begun limits) refl
+  tells-few s b m limits =
+      ap (λ (x : List Op). tellable (perform call x 0 (begun limits) .number)) (sym (append-nil (modeOps deepest b m (Header s) 0)))
+      ∙ mode-fine deepest b m (Header s) 0 0 (omega arith) [] (λ i h e k. refl) 0 (begun limits) refl

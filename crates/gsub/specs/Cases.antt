@@ -8,6 +8,8 @@ use Rattle.model.specs.Judge.{Limits}
 use Rattle.model.specs.Session.{Needs}
 use Rattle.model.specs.History.{History, begun}
 use Rattle.steps.specs.Mirrored.{byHistory}
+use Rattle.gsub.specs.declared.Scope.{Scope}
+use Rattle.gsub.specs.declared.Scope.the-variants.{Whole}
 use Rattle.gsub.specs.declared.Kind.the-variants.{Header}
 use Rattle.gsub.specs.Ops.{Outcome, tableOps, perform}
 use Rattle.gsub.specs.Meaning.{deepest, gsubReading}
@@ -79,8 +81,8 @@ listed2 =
 abbrev noNeeds : Needs
 noNeeds = record { records = λ m. 0; work = λ m copies. 0 }
 
-unfoldable pub readIn : Limits → List ℕ → Outcome History
-readIn m b = perform (byHistory noNeeds 0 0) (tableOps deepest b Header 0) 0 (begun m)
+unfoldable pub readIn : Scope → Limits → List ℕ → Outcome History
+readIn s m b = perform (byHistory noNeeds 0 0) (tableOps deepest b (Header s) 0) 0 (begun m)
 
 -- a table, the limits that it is read in, and the number and the place told
 pub record Case : Type 0 where
@@ -89,25 +91,25 @@ pub record Case : Type 0 where
   pub number : ℕ
   pub place : ℕ
 
-unfoldable pub told : Case → Bool
-told c = let o = readIn (c .limits) (c .table) in eqb (o .number) (c .number) && eqb (o .place) (c .place)
+unfoldable pub told : Scope → Case → Bool
+told s c = let o = readIn s (c .limits) (c .table) in eqb (o .number) (c .number) && eqb (o .place) (c .place)
 
-unfoldable pub allTold : List Case → Bool
-allTold [] = true
-allTold (c ∷ cs) = told c && allTold cs
+unfoldable pub allTold : Scope → List Case → Bool
+allTold s [] = true
+allTold s (c ∷ cs) = told s c && allTold s cs
 
-abbrev within : ℕ → ℕ → ℕ → List ℕ → ℕ → Case
+abbrev pub within : ℕ → ℕ → ℕ → List ℕ → ℕ → Case
 within objects links bytes b n = record { table = b; limits = record { objects = objects; links = links; bytes = bytes }; number = n; place = 0 }
 
 -- in limits wide enough
-abbrev accepted : List ℕ → Case
-accepted b = within 16 16 128 b 0
+abbrev pub accepted : List ℕ → Case
+accepted b = within 16 16 256 b 0
 
-abbrev stops : List ℕ → ℕ → Case
-stops b p = record { table = b; limits = record { objects = 16; links = 16; bytes = 128 }; number = 15; place = p }
+abbrev pub stops : List ℕ → ℕ → Case
+stops b p = record { table = b; limits = record { objects = 16; links = 16; bytes = 256 }; number = 15; place = p }
 
 -- the small table with another byte
-abbrev but : ℕ → ℕ → List ℕ
+abbrev pub but : ℕ → ℕ → List ℕ
 but at v = set small at v
 
 abbrev pub cases : List Case
@@ -171,11 +173,11 @@ pub record Substitution : Type 0 where
   pub glyph : ℕ
   pub gives : ℕ
 
-abbrev gives : List ℕ → ℕ → ℕ → Substitution
+abbrev pub gives : List ℕ → ℕ → ℕ → Substitution
 gives b g x = record { table = b; lookup = 0; glyph = g; gives = x }
 
 unfoldable pub given : Substitution → Bool
-given c = eqb (substitute (gsubReading (c .table)) (c .lookup) (c .glyph)) (c .gives) && eqb (substituteFrom (c .table) (c .lookup) (c .glyph)) (c .gives)
+given c = eqb (substitute (gsubReading Whole (c .table)) (c .lookup) (c .glyph)) (c .gives) && eqb (substituteFrom (c .table) (c .lookup) (c .glyph)) (c .gives)
 
 unfoldable pub allGiven : List Substitution → Bool
 allGiven [] = true

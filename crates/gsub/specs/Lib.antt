@@ -1,7 +1,10 @@
+pub mod Shapes
 pub mod Tables
+pub mod Features
 pub mod Ops
 pub mod Meaning
 pub mod Substitute
 pub mod Refusals
 pub mod Promote
 pub mod Cases
+pub mod WholeCases

@@ -5,6 +5,7 @@ use lib.ListN.{replicate}
 use Rattle.lists.specs.Lists.{part}
 use Rattle.model_orders.specs.Object.{newSlot}
 use Rattle.model_orders.specs.Reading.{Reading, bytes, field}
+use Rattle.gsub.specs.declared.Scope.{Scope}
 use Rattle.gsub.specs.declared.Kind.{Kind}
 use Rattle.gsub.specs.declared.Kind.the-variants.{Header}
 use Rattle.gsub.specs.declared.Field.{Field}
@@ -41,9 +42,9 @@ unfoldable pub tableReading : ℕ → List ℕ → Kind → ℕ → Reading
 tableReading zero b k p = bytes []
 tableReading (suc n) b k p = readingBy (λ a. tableReading n b) b k p
 
--- Header, LookupList, Lookup, Extension, SingleSubst, Coverage: none lies deeper
+-- Header, LookupList, Lookup, Extension, a subtable, a set, a rule: none lies deeper
 abbrev pub deepest : ℕ
-deepest = 6
+deepest = 7
 
-abbrev pub gsubReading : List ℕ → Reading
-gsubReading b = tableReading deepest b Header 0
+abbrev pub gsubReading : Scope → List ℕ → Reading
+gsubReading s b = tableReading deepest b (Header s) 0

@@ -1,5 +1,5 @@
 -- docs/RULES.md, 11.3 to 11.5: reading a table as the calls that it makes: fields are read, judged and put one by one, and each offset is followed as soon as it is read.
-use Prim.Native.Nat.{ℕ, zero, suc, _+_}
+use Prim.Native.Nat.{ℕ, zero, suc, _+_, _-_}
 use mathlib.Core.List.{List, [], _∷_, _++_}
 use lib.ListN.{length}
 use lib.Dec.{eqb, leb}
@@ -7,22 +7,29 @@ use Rattle.lists.specs.Lists.{pick, part}
 use Rattle.big_endian.specs.BigEndian.{readBig}
 use Rattle.gsub.specs.declared.Kind.{Kind}
 use Rattle.gsub.specs.declared.Rule.{Rule}
-use Rattle.gsub.specs.declared.Rule.the-variants.{Any, Only, To, ToOrNull}
+use Rattle.gsub.specs.declared.Rule.the-variants.{Any, Only, To, ToOrNull, ToFeature}
 use Rattle.gsub.specs.declared.Field.{Field}
 pub use Rattle.gsub.specs.declared.Act.{Act}
 pub use Rattle.gsub.specs.declared.Act.the-variants.{Keep as keep, Follow as follow, Refuse as refuse}
-use Rattle.gsub.specs.Tables.{fieldsAt}
+use Rattle.gsub.specs.Tables.{wordAt, fieldsAt}
+use Rattle.gsub.specs.Features.{featureBy}
 use Rattle.steps.specs.Runs.{StoreCall}
 use Rattle.steps.specs.Runs as calls
 use Rattle.steps.specs.Mirrored.{Step}
 
 -- ---- one field
 
-unfoldable pub byRule : Rule → ℕ → Act
-byRule Any v = keep
-byRule (Only x) v = pick (eqb v x) keep refuse
-byRule (To k) v = pick (eqb v 0) refuse (follow k)
-byRule (ToOrNull k) v = pick (eqb v 0) keep (follow k)
+-- by the number v in it; `feature` is the kind of Feature that the tag before it calls for
+unfoldable pub byRule : Rule → Kind → ℕ → Act
+byRule Any feature v = keep
+byRule (Only x) feature v = pick (eqb v x) keep refuse
+byRule (To k) feature v = pick (eqb v 0) refuse (follow k)
+byRule (ToOrNull k) feature v = pick (eqb v 0) keep (follow k)
+byRule ToFeature feature v = pick (eqb v 0) refuse (follow feature)
+
+-- by the tag that stands in the four bytes before a place of the slice
+abbrev pub featureAt : List ℕ → ℕ → Kind
+featureAt b at = featureBy (wordAt b (at - 4)) (wordAt b (at - 2))
 
 -- the number in a field of width w at a place of the slice
 abbrev pub valueAt : List ℕ → ℕ → ℕ → ℕ
@@ -30,7 +37,7 @@ valueAt b at w = readBig (part at (at + w) b)
 
 -- a read past the slice's end is refused before the number is judged
 unfoldable pub act : List ℕ → ℕ → Field → Act
-act b at f = pick (leb (at + f .width) (length b)) (byRule (f .rule) (valueAt b at (f .width))) refuse
+act b at f = pick (leb (at + f .width) (length b)) (byRule (f .rule) (featureAt b at) (valueAt b at (f .width))) refuse
 
 -- ---- what reading does: session calls, a link being to the object closed just before it; or refusal 15, with the field's place
 

@@ -9,9 +9,10 @@ use Rattle.answer.specs.Number.{number}
 use Rattle.answer.specs.declared.Refusal.the-variants as Refusal
 use Rattle.steps.specs.Runs.{StoreCall}
 use Rattle.steps.specs.Mirrored.{Step}
+use Rattle.gsub.specs.declared.Scope.{Scope}
 use Rattle.gsub.specs.declared.Kind.{Kind}
 use Rattle.gsub.specs.declared.Kind.the-variants.{Header}
-use Rattle.gsub.specs.declared.Rule.the-variants.{Only, To}
+use Rattle.gsub.specs.declared.Rule.the-variants.{Only, To, ToFeature}
 use Rattle.gsub.specs.declared.Field.{Field}
 use Rattle.gsub.specs.Tables.{fieldsAt}
 use Rattle.gsub.specs.Ops.{valueAt, act, follow, badTable, Op, perform}
@@ -21,6 +22,7 @@ pub data Bad (b : List ℕ) (at : ℕ) (f : Field) : Type 0 where
   passes : length b < at + f .width → Bad b at f
   another : (v : ℕ) → f .rule ≡ Only v → (valueAt b at (f .width) ≡ v → ⊥) → Bad b at f
   null : (k : Kind) → f .rule ≡ To k → valueAt b at (f .width) ≡ 0 → Bad b at f
+  null-feature : f .rule ≡ ToFeature → valueAt b at (f .width) ≡ 0 → Bad b at f
 
 -- f is one of these fields, and a bytes stand before it
 pub data FieldAt (f : Field) : ℕ → List Field → Type 0 where
@@ -28,15 +30,15 @@ pub data FieldAt (f : Field) : ℕ → List Field → Type 0 where
   there : {a : ℕ} {g : Field} {fs : List Field} → FieldAt f a fs → FieldAt f (g .width + a) (g ∷ fs)
 
 -- the tables that offsets lead to, from the header at 0 on
-pub data Met (b : List ℕ) : Kind → ℕ → Type 0 where
-  header : Met b Header 0
-  child : {k j : Kind} {p a : ℕ} {f : Field} → Met b k p → FieldAt f a (fieldsAt b k p) → act b (p + a) f ≡ follow j → Met b j (p + valueAt b (p + a) (f .width))
+pub data Met (s : Scope) (b : List ℕ) : Kind → ℕ → Type 0 where
+  header : Met s b (Header s) 0
+  child : {k j : Kind} {p a : ℕ} {f : Field} → Met s b k p → FieldAt f a (fieldsAt b k p) → act b (p + a) f ≡ follow j → Met s b j (p + valueAt b (p + a) (f .width))
 
 -- a field of one of them is refused at this place
-pub record BadAt (b : List ℕ) (place : ℕ) : Type 0 where
+pub record BadAt (s : Scope) (b : List ℕ) (place : ℕ) : Type 0 where
   pub kind : Kind
   pub table : ℕ
-  pub met : Met b kind table
+  pub met : Met s b kind table
   pub at : ℕ
   pub field : Field
   pub stands : FieldAt field at (fieldsAt b kind table)

@@ -45,15 +45,22 @@ module _ {T : Type 0} (word : T → ℕ → ℕ) (child : T → ℕ → T) where
 
   -- ---- a Lookup; `far t a` is the table that the offset of four bytes at a leads to
 
-  module _ (far : T → ℕ → T) where
-    -- the subtable of number i: of type 1 where the offset leads, else behind the Extension there
-    unfoldable pub subtable : T → ℕ → T
-    subtable t i = let s = child t (6 + 2 * i) in pick (eqb (word t 0) 1) s (far s 4)
+  -- the type of the subtable of number i: the Lookup's own, or of type 7 that of the Extension there
+  unfoldable pub typeOf : T → ℕ → ℕ
+  typeOf t i = pick (eqb (word t 0) 7) (word (child t (6 + 2 * i)) 2) (word t 0)
 
-    -- the first subtable that covers the glyph, from number i on, n of them left
+  module _ (far : T → ℕ → T) where
+    -- the subtable itself: where its offset leads, or of type 7 behind the Extension there
+    unfoldable pub subtable : T → ℕ → T
+    subtable t i = let s = child t (6 + 2 * i) in pick (eqb (word t 0) 7) (far s 4) s
+
+    -- the first subtable of type 1 that covers the glyph, from number i on, n of them left
     unfoldable pub bySubtables : T → ℕ → ℕ → ℕ → ℕ
     bySubtables t g i zero = g
-    bySubtables t g i (suc n) = let s = subtable t i in settled s g (coverageIndex (child s 2) g) (bySubtables t g (i + 1) n)
+    bySubtables t g i (suc n) =
+        let s = subtable t i in
+        let later = bySubtables t g (i + 1) n in
+        pick (eqb (typeOf t i) 1) (settled s g (coverageIndex (child s 2) g) later) later
 
     -- the lookup of a number in the LookupList, of a Header; a number past the list is no lookup, and changes nothing
     unfoldable pub substituteIn : T → ℕ → ℕ → ℕ

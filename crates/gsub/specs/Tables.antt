@@ -1,69 +1,28 @@
--- docs/RULES.md, 11.2: the OpenType specification, "OpenType Layout Common Table Formats" and "GSUB - Glyph Substitution Table": each table as its fields in order.
-use Prim.Native.Nat.{ℕ, zero, suc, _+_, _-_, _*_, _/_, _%_}
-use mathlib.Core.List.{List, [], _∷_, _++_}
-use mathlib.Core.Bool.{Bool}
+-- docs/RULES.md, 11.2 and 16.2: the OpenType specification, "OpenType Layout Common Table Formats" and "GSUB - Glyph Substitution Table": each table as its fields in order.
+use Prim.Native.Nat.{ℕ, _+_, _*_}
+use mathlib.Core.List.{List, [], _∷_}
 use lib.ListN.{getD}
 use lib.Dec.{eqb}
 use Rattle.lists.specs.Lists.{pick}
 use Rattle.big_endian.specs.BigEndian.{capacity}
+use Rattle.gsub.specs.declared.Scope.{Scope}
+use Rattle.gsub.specs.declared.Scope.the-variants.{Single, Whole}
+use Rattle.gsub.specs.declared.Params.the-variants.{Size, StylisticSet, CharacterVariant}
 use Rattle.gsub.specs.declared.Kind.{Kind}
-use Rattle.gsub.specs.declared.Kind.the-variants.{Header, ScriptList, Script, LangSys, FeatureList, Feature, LookupList, Lookup, Extension, SingleSubst, Coverage}
-use Rattle.gsub.specs.declared.Rule.the-variants.{Any, Only, To, ToOrNull}
+use Rattle.gsub.specs.declared.Kind.the-variants.{Header, ScriptList, Script, LangSys, FeatureList, Feature, FeatureWith, FeatureParams, LookupList, Lookup, Extension, SingleSubst, MultipleSubst, Sequence, AlternateSubst, AlternateSet, LigatureSubst, LigatureSet, Ligature, SequenceContext, SequenceRuleSet, SequenceRule, ChainedSequenceContext, ChainedSequenceRuleSet, ChainedSequenceRule, ReverseChainSingleSubst, Coverage, ClassDef, FeatureVariations, ConditionSet, Condition, FeatureTableSubstitution}
 use Rattle.gsub.specs.declared.Field.{Field}
-
--- ---- fields
-
-abbrev pub uint16 : Field
-uint16 = record { width = 2; rule = Any }
-
-abbrev pub tag : Field
-tag = record { width = 4; rule = Any }
-
--- a version, a format or a type; or an offset that must be NULL
-abbrev pub is : ℕ → Field
-is v = record { width = 2; rule = Only v }
-
-abbrev pub offset16 : Kind → Field
-offset16 k = record { width = 2; rule = To k }
-
-abbrev pub offset32 : Kind → Field
-offset32 k = record { width = 4; rule = To k }
-
-abbrev pub offset16OrNull : Kind → Field
-offset16OrNull k = record { width = 2; rule = ToOrNull k }
-
--- ---- tables
-
--- how often a run of fields stands there: once; as often as the number at a place of the table says, less so many; as the number just before the
--- run says, less so many; once where lookupFlag has USE_MARK_FILTERING_SET, else not at all
-pub data Times : Type 0 where
-  once : Times
-  count : ℕ → ℕ → Times
-  before : ℕ → Times
-  marked : Times
-
-pub record Run : Type 0 where
-  pub by : Times
-  pub each : List Field
-
-abbrev pub one : List Field → Run
-one fs = record { by = once; each = fs }
-
--- as often as the number just before says
-abbrev pub many : List Field → Run
-many fs = record { by = before 0; each = fs }
-
-abbrev pub ifMarked : List Field → Run
-ifMarked fs = record { by = marked; each = fs }
-
-abbrev pub Shape : Type 0
-Shape = List Run
+pub use Rattle.gsub.specs.Shapes.{uint16, uint24, tag, is, offset16, offset32, offset16OrNull, offset32OrNull, featureOffset, Times, once, count, before, marked, Run, one, many, fewer, byCount, ifMarked, Shape, markFiltering}
+unfoldable pub use Rattle.gsub.specs.Shapes.{times, size, often, laid}
 
 -- ---- common tables
 
 -- majorVersion, minorVersion, scriptListOffset, featureListOffset, lookupListOffset
-abbrev pub header : Shape
-header = one (is 1 ∷ is 0 ∷ offset16 ScriptList ∷ offset16 FeatureList ∷ offset16 LookupList ∷ []) ∷ []
+abbrev pub header10 : Scope → Shape
+header10 s = one (is 1 ∷ is 0 ∷ offset16 ScriptList ∷ offset16 (FeatureList s) ∷ offset16 (LookupList s) ∷ []) ∷ []
+
+-- and featureVariationsOffset, which may be NULL
+abbrev pub header11 : Shape
+header11 = one (is 1 ∷ is 1 ∷ offset16 ScriptList ∷ offset16 (FeatureList Whole) ∷ offset16 (LookupList Whole) ∷ offset32OrNull FeatureVariations ∷ []) ∷ []
 
 -- scriptCount; scriptTag, scriptOffset
 abbrev pub scriptList : Shape
@@ -78,26 +37,20 @@ abbrev pub langSys : Shape
 langSys = one (is 0 ∷ uint16 ∷ uint16 ∷ []) ∷ many (uint16 ∷ []) ∷ []
 
 -- featureCount; featureTag, featureOffset
-abbrev pub featureList : Shape
-featureList = one (uint16 ∷ []) ∷ many (tag ∷ offset16 Feature ∷ []) ∷ []
+abbrev pub featureListOf : Field → Shape
+featureListOf feature = one (uint16 ∷ []) ∷ many (tag ∷ feature ∷ []) ∷ []
 
 -- featureParamsOffset, lookupIndexCount; lookupListIndices
-abbrev pub feature : Shape
-feature = one (is 0 ∷ uint16 ∷ []) ∷ many (uint16 ∷ []) ∷ []
+abbrev pub featureOf : Field → Shape
+featureOf params = one (params ∷ uint16 ∷ []) ∷ many (uint16 ∷ []) ∷ []
 
 -- lookupCount; lookupOffsets
-abbrev pub lookupList : Shape
-lookupList = one (uint16 ∷ []) ∷ many (offset16 Lookup ∷ []) ∷ []
+abbrev pub lookupList : Scope → Shape
+lookupList s = one (uint16 ∷ []) ∷ many (offset16 (Lookup s) ∷ []) ∷ []
 
 -- lookupType, lookupFlag, subTableCount; subtableOffsets; markFilteringSet
 abbrev pub lookupOf : ℕ → Kind → Shape
 lookupOf type k = one (is type ∷ uint16 ∷ uint16 ∷ []) ∷ many (offset16 k ∷ []) ∷ ifMarked (uint16 ∷ []) ∷ []
-
-abbrev pub lookup1 : Shape
-lookup1 = lookupOf 1 SingleSubst
-
-abbrev pub lookup7 : Shape
-lookup7 = lookupOf 7 Extension
 
 -- coverageFormat, glyphCount; glyphArray
 abbrev pub coverage1 : Shape
@@ -106,6 +59,46 @@ coverage1 = one (is 1 ∷ uint16 ∷ []) ∷ many (uint16 ∷ []) ∷ []
 -- coverageFormat, rangeCount; startGlyphID, endGlyphID, startCoverageIndex
 abbrev pub coverage2 : Shape
 coverage2 = one (is 2 ∷ uint16 ∷ []) ∷ many (uint16 ∷ uint16 ∷ uint16 ∷ []) ∷ []
+
+-- classFormat, startGlyphID, glyphCount; classValueArray
+abbrev pub classDef1 : Shape
+classDef1 = one (is 1 ∷ uint16 ∷ uint16 ∷ []) ∷ many (uint16 ∷ []) ∷ []
+
+-- classFormat, classRangeCount; startGlyphID, endGlyphID, class
+abbrev pub classDef2 : Shape
+classDef2 = one (is 2 ∷ uint16 ∷ []) ∷ many (uint16 ∷ uint16 ∷ uint16 ∷ []) ∷ []
+
+-- ---- feature parameters
+
+-- designSize, subfamilyIdentifier, subfamilyNameID, rangeStart, rangeEnd
+abbrev pub sizeParams : Shape
+sizeParams = one (uint16 ∷ uint16 ∷ uint16 ∷ uint16 ∷ uint16 ∷ []) ∷ []
+
+-- version, uiNameID
+abbrev pub stylisticSet : Shape
+stylisticSet = one (is 0 ∷ uint16 ∷ []) ∷ []
+
+-- format, featUiLabelNameId, featUiTooltipTextNameId, sampleTextNameId, numNamedParameters, firstParamUiLabelNameId; charCount; characters
+abbrev pub characterVariant : Shape
+characterVariant = one (is 0 ∷ uint16 ∷ uint16 ∷ uint16 ∷ uint16 ∷ uint16 ∷ []) ∷ one (uint16 ∷ []) ∷ many (uint24 ∷ []) ∷ []
+
+-- ---- feature variations
+
+-- majorVersion, minorVersion, featureVariationRecordCount, whose upper half is zero; conditionSetOffset, featureTableSubstitutionOffset
+abbrev pub featureVariations : Shape
+featureVariations = one (is 1 ∷ is 0 ∷ is 0 ∷ uint16 ∷ []) ∷ many (offset32 ConditionSet ∷ offset32 FeatureTableSubstitution ∷ []) ∷ []
+
+-- conditionCount; conditionOffsets
+abbrev pub conditionSet : Shape
+conditionSet = one (uint16 ∷ []) ∷ many (offset32 Condition ∷ []) ∷ []
+
+-- format, axisIndex, filterRangeMinValue, filterRangeMaxValue
+abbrev pub condition : Shape
+condition = one (is 1 ∷ uint16 ∷ uint16 ∷ uint16 ∷ []) ∷ []
+
+-- majorVersion, minorVersion, substitutionCount; featureIndex, alternateFeatureOffset
+abbrev pub featureTableSubstitution : Shape
+featureTableSubstitution = one (is 1 ∷ is 0 ∷ uint16 ∷ []) ∷ many (uint16 ∷ offset32 Feature ∷ []) ∷ []
 
 -- ---- lookup type 1: single substitution
 
@@ -117,52 +110,184 @@ singleSubst1 = one (is 1 ∷ offset16 Coverage ∷ uint16 ∷ []) ∷ []
 abbrev pub singleSubst2 : Shape
 singleSubst2 = one (is 2 ∷ offset16 Coverage ∷ uint16 ∷ []) ∷ many (uint16 ∷ []) ∷ []
 
--- ---- lookup type 7: extension substitution
+-- ---- types 2, 3 and 4: multiple, alternate and ligature substitution
+
+-- substFormat, coverageOffset, a count of offsets; these
+abbrev pub coveredList : Kind → Shape
+coveredList k = one (is 1 ∷ offset16 Coverage ∷ uint16 ∷ []) ∷ many (offset16 k ∷ []) ∷ []
+
+-- of a Sequence or an AlternateSet: glyphCount; glyph ids
+abbrev pub glyphList : Shape
+glyphList = one (uint16 ∷ []) ∷ many (uint16 ∷ []) ∷ []
+
+-- of a set of ligatures or of rules: their count; their offsets
+abbrev pub setOf : Kind → Shape
+setOf k = one (uint16 ∷ []) ∷ many (offset16 k ∷ []) ∷ []
+
+-- ligatureGlyph, componentCount; componentGlyphIDs, from the second on
+abbrev pub ligature : Shape
+ligature = one (uint16 ∷ uint16 ∷ []) ∷ fewer (uint16 ∷ []) ∷ []
+
+-- ---- types 5 and 6: contextual and chained contexts substitution
+
+-- format, coverageOffset, a count of rule sets; their offsets, which may be NULL
+abbrev pub context1 : Kind → Shape
+context1 k = one (is 1 ∷ offset16 Coverage ∷ uint16 ∷ []) ∷ many (offset16OrNull k ∷ []) ∷ []
+
+-- format, coverageOffset, classDefOffset, classSeqRuleSetCount; classSeqRuleSetOffsets, which may be NULL
+abbrev pub sequenceContext2 : Shape
+sequenceContext2 = one (is 2 ∷ offset16 Coverage ∷ offset16 ClassDef ∷ uint16 ∷ []) ∷ many (offset16OrNull SequenceRuleSet ∷ []) ∷ []
+
+-- format, glyphCount, seqLookupCount; coverageOffsets; sequenceIndex, lookupListIndex
+abbrev pub sequenceContext3 : Shape
+sequenceContext3 = one (is 3 ∷ uint16 ∷ uint16 ∷ []) ∷ byCount 2 0 (offset16 Coverage ∷ []) ∷ byCount 4 0 (uint16 ∷ uint16 ∷ []) ∷ []
+
+-- glyphCount, seqLookupCount; inputSequence, from the second on; sequenceIndex, lookupListIndex
+abbrev pub sequenceRule : Shape
+sequenceRule = one (uint16 ∷ uint16 ∷ []) ∷ byCount 0 1 (uint16 ∷ []) ∷ byCount 2 0 (uint16 ∷ uint16 ∷ []) ∷ []
+
+-- format, coverageOffset, backtrackClassDefOffset, inputClassDefOffset, lookaheadClassDefOffset, chainedClassSeqRuleSetCount; chainedClassSeqRuleSetOffsets.
+-- The first, the third and the last may be NULL
+abbrev pub chainedContext2 : Shape
+chainedContext2 =
+    one (is 2 ∷ offset16 Coverage ∷ offset16OrNull ClassDef ∷ offset16 ClassDef ∷ offset16OrNull ClassDef ∷ uint16 ∷ [])
+    ∷ many (offset16OrNull ChainedSequenceRuleSet ∷ [])
+    ∷ []
+
+-- format, backtrackGlyphCount; backtrackCoverageOffsets; inputGlyphCount; inputCoverageOffsets; lookaheadGlyphCount; lookaheadCoverageOffsets;
+-- seqLookupCount; sequenceIndex, lookupListIndex
+abbrev pub chainedContext3 : Shape
+chainedContext3 =
+    one (is 3 ∷ uint16 ∷ [])
+    ∷ many (offset16 Coverage ∷ [])
+    ∷ one (uint16 ∷ [])
+    ∷ many (offset16 Coverage ∷ [])
+    ∷ one (uint16 ∷ [])
+    ∷ many (offset16 Coverage ∷ [])
+    ∷ one (uint16 ∷ [])
+    ∷ many (uint16 ∷ uint16 ∷ [])
+    ∷ []
+
+-- backtrackGlyphCount; backtrackSequence; inputGlyphCount; inputSequence, from the second on; lookaheadGlyphCount; lookaheadSequence;
+-- seqLookupCount; sequenceIndex, lookupListIndex
+abbrev pub chainedRule : Shape
+chainedRule =
+    one (uint16 ∷ [])
+    ∷ many (uint16 ∷ [])
+    ∷ one (uint16 ∷ [])
+    ∷ fewer (uint16 ∷ [])
+    ∷ one (uint16 ∷ [])
+    ∷ many (uint16 ∷ [])
+    ∷ one (uint16 ∷ [])
+    ∷ many (uint16 ∷ uint16 ∷ [])
+    ∷ []
+
+-- ---- type 7: extension substitution
 
 -- substFormat, extensionLookupType, extensionOffset
-abbrev pub extension : Shape
-extension = one (is 1 ∷ is 1 ∷ offset32 SingleSubst ∷ []) ∷ []
+abbrev pub extensionOf : ℕ → Kind → Shape
+extensionOf type k = one (is 1 ∷ is type ∷ offset32 k ∷ []) ∷ []
 
--- ---- by the table's first two numbers: a format or a lookup type is the first. One that is none of them is refused by the last one's own field
+-- ---- type 8: reverse chaining contextual single substitution
 
-unfoldable pub shape : Kind → ℕ → ℕ → Shape
-shape Header first second = header
-shape ScriptList first second = scriptList
-shape Script first second = script
-shape LangSys first second = langSys
-shape FeatureList first second = featureList
-shape Feature first second = feature
-shape LookupList first second = lookupList
-shape Lookup first second = pick (eqb first 1) lookup1 lookup7
-shape Extension first second = extension
-shape SingleSubst first second = pick (eqb first 1) singleSubst1 singleSubst2
-shape Coverage first second = pick (eqb first 1) coverage1 coverage2
+-- substFormat, coverageOffset, backtrackGlyphCount; backtrackCoverageOffsets; lookaheadGlyphCount; lookaheadCoverageOffsets; glyphCount; substituteGlyphIDs
+abbrev pub reverseSubst : Shape
+reverseSubst =
+    one (is 1 ∷ offset16 Coverage ∷ uint16 ∷ [])
+    ∷ many (offset16 Coverage ∷ [])
+    ∷ one (uint16 ∷ [])
+    ∷ many (offset16 Coverage ∷ [])
+    ∷ one (uint16 ∷ [])
+    ∷ many (uint16 ∷ [])
+    ∷ []
 
--- ---- a table's fields, by the numbers that stand in it: word i is the one from its byte i on
+-- ---- which of its shapes a table has: its only one; by its first number, a format or a lookup type, from 1 on; by its second, from this number on
 
-unfoldable pub times : ℕ → List Field → List Field
-times zero r = []
-times (suc n) r = r ++ times n r
+pub data Formats : Type 0 where
+  only : Shape → Formats
+  byFirst : List Shape → Formats
+  bySecond : ℕ → List Shape → Formats
 
-unfoldable pub size : List Field → ℕ
-size [] = 0
-size (f ∷ fs) = f .width + size fs
+-- the last one is for every other number too, which its own field refuses
+unfoldable pub byNumber : ℕ → ℕ → List Shape → Shape
+byNumber n i [] = []
+byNumber n i (s ∷ []) = s
+byNumber n i (s ∷ t ∷ ss) = pick (eqb n i) s (byNumber n (i + 1) (t ∷ ss))
 
--- lookupFlag bit 0x0010
-abbrev pub markFiltering : ℕ → Bool
-markFiltering flag = eqb (flag / 16 % 2) 1
+abbrev pub chosen : Formats → ℕ → ℕ → Shape
+chosen (only s) first second = s
+chosen (byFirst ss) first second = byNumber first 1 ss
+chosen (bySecond from ss) first second = byNumber second from ss
 
--- how often the fields of a run from a on stand there
-unfoldable pub often : (ℕ → ℕ) → ℕ → Times → ℕ
-often word a once = 1
-often word a (count at less) = word at - less
-often word a (before less) = word (a - 2) - less
-often word a marked = pick (markFiltering (word 2)) 1 0
+-- of every lookup type
+abbrev pub lookups : List Shape
+lookups =
+    lookupOf 1 SingleSubst
+    ∷ lookupOf 2 MultipleSubst
+    ∷ lookupOf 3 AlternateSubst
+    ∷ lookupOf 4 LigatureSubst
+    ∷ lookupOf 5 SequenceContext
+    ∷ lookupOf 6 ChainedSequenceContext
+    ∷ lookupOf 7 (Extension Whole)
+    ∷ lookupOf 8 ReverseChainSingleSubst
+    ∷ []
 
--- runs one after another, from a on
-unfoldable pub laid : (ℕ → ℕ) → ℕ → List Run → List Field
-laid word a [] = []
-laid word a (r ∷ rs) = let n = often word a (r .by) in times n (r .each) ++ laid word (a + n * size (r .each)) rs
+-- of every type but 7
+abbrev pub extensions : List Shape
+extensions =
+    extensionOf 1 SingleSubst
+    ∷ extensionOf 2 MultipleSubst
+    ∷ extensionOf 3 AlternateSubst
+    ∷ extensionOf 4 LigatureSubst
+    ∷ extensionOf 5 SequenceContext
+    ∷ extensionOf 6 ChainedSequenceContext
+    ∷ extensionOf 8 ReverseChainSingleSubst
+    ∷ []
+
+unfoldable pub formats : Kind → Formats
+formats (Header Single) = only (header10 Single)
+formats (Header Whole) = bySecond 0 (header10 Whole ∷ header11 ∷ [])
+formats ScriptList = only scriptList
+formats Script = only script
+formats LangSys = only langSys
+formats (FeatureList Single) = only (featureListOf (offset16 Feature))
+formats (FeatureList Whole) = only (featureListOf featureOffset)
+formats Feature = only (featureOf (is 0))
+formats (FeatureWith p) = only (featureOf (offset16OrNull (FeatureParams p)))
+formats (FeatureParams Size) = only sizeParams
+formats (FeatureParams StylisticSet) = only stylisticSet
+formats (FeatureParams CharacterVariant) = only characterVariant
+formats (LookupList s) = only (lookupList s)
+formats (Lookup Single) = byFirst (lookupOf 1 SingleSubst ∷ lookupOf 7 (Extension Single) ∷ [])
+formats (Lookup Whole) = byFirst lookups
+formats (Extension Single) = only (extensionOf 1 SingleSubst)
+formats (Extension Whole) = bySecond 1 extensions
+formats SingleSubst = byFirst (singleSubst1 ∷ singleSubst2 ∷ [])
+formats MultipleSubst = only (coveredList Sequence)
+formats Sequence = only glyphList
+formats AlternateSubst = only (coveredList AlternateSet)
+formats AlternateSet = only glyphList
+formats LigatureSubst = only (coveredList LigatureSet)
+formats LigatureSet = only (setOf Ligature)
+formats Ligature = only ligature
+formats SequenceContext = byFirst (context1 SequenceRuleSet ∷ sequenceContext2 ∷ sequenceContext3 ∷ [])
+formats SequenceRuleSet = only (setOf SequenceRule)
+formats SequenceRule = only sequenceRule
+formats ChainedSequenceContext = byFirst (context1 ChainedSequenceRuleSet ∷ chainedContext2 ∷ chainedContext3 ∷ [])
+formats ChainedSequenceRuleSet = only (setOf ChainedSequenceRule)
+formats ChainedSequenceRule = only chainedRule
+formats ReverseChainSingleSubst = only reverseSubst
+formats Coverage = byFirst (coverage1 ∷ coverage2 ∷ [])
+formats ClassDef = byFirst (classDef1 ∷ classDef2 ∷ [])
+formats FeatureVariations = only featureVariations
+formats ConditionSet = only conditionSet
+formats Condition = only condition
+formats FeatureTableSubstitution = only featureTableSubstitution
+
+abbrev pub shape : Kind → ℕ → ℕ → Shape
+shape k first second = chosen (formats k) first second
+
+-- ---- a table's fields
 
 unfoldable pub fieldsOf : Kind → (ℕ → ℕ) → List Field
 fieldsOf k word = laid word 0 (shape k (word 0) (word 2))

@@ -1,4 +1,4 @@
--- docs/RULES.md, section 11: open this file first. Of a read, in any stores:
+-- docs/RULES.md, section 11 and 16.1: open this file first. Of a read of either scope, in any stores:
 --   11.4  15 is told exactly where a bad field is reached, with its place: `bad-exactly`, `bad-field`, here; which fields are bad `stops-exactly` (gsub Refusals)
 --   11.5  the earliest refusal is told: `first-refusal`, here; no number but 0, 6, 7, 8, 13, 15, 16: `numbers-told`, here
 --   11.6  after a refusal the stores are as freshly started: `refused-fresh`; after 13 as they were: `untouched`, here
@@ -29,6 +29,7 @@ use Rattle.steps.specs.Steps.{limitsOf}
 use Rattle.steps.specs.Runs.{StoreCall, Stores, start, stepOn, asCall}
 use Rattle.steps.specs.Mirrored.{Step, byHistory}
 use Rattle.claims.specs.Demand.{needs}
+use Rattle.gsub.specs.declared.Scope.{Scope}
 use Rattle.gsub.specs.Ops.{badTable, stop, Outcome, perform}
 use Rattle.gsub.specs.Refusals.{BadAt, Reaches, Settles}
 use Rattle.gsub.proofs.Refusals.{stops-exactly}
@@ -37,21 +38,21 @@ use Rattle.gsub_read.specs.Read.{ReadTold, doneRead, refusedRead, toldOf, gsubO
 use Rattle.gsub_read.proofs.Fresh.{start-number}
 use Rattle.gsub_read.proofs.Listed.{few-told, read-told, read-tells, never-12, untouched-13}
 
--- b is read in s
-module _ (b : List ℕ) (objects links : ℕ) (s : Stores) where
-  pub numbers-told : readTells (readStep b objects links s .told .number) ≡ true
-  numbers-told = read-tells (gsubOps b) objects links s (few-told b)
+-- b is read in s, whatever its scope
+module _ (scope : Scope) (b : List ℕ) (objects links : ℕ) (s : Stores) where
+  pub numbers-told : readTells (readStep scope b objects links s .told .number) ≡ true
+  numbers-told = read-tells (gsubOps scope b) objects links s (few-told scope b)
 
-  pub never-unsound : readStep b objects links s .told .number ≡ number Refusal.Unsound → ⊥
-  never-unsound = never-12 (gsubOps b) objects links s (few-told b)
+  pub never-unsound : readStep scope b objects links s .told .number ≡ number Refusal.Unsound → ⊥
+  never-unsound = never-12 (gsubOps scope b) objects links s (few-told scope b)
 
-  pub untouched : readStep b objects links s .told .number ≡ number Refusal.OutOfRange → readStep b objects links s .stores ≡ s
-  untouched = untouched-13 (gsubOps b) objects links s (few-told b)
+  pub untouched : readStep scope b objects links s .told .number ≡ number Refusal.OutOfRange → readStep scope b objects links s .stores ≡ s
+  untouched = untouched-13 (gsubOps scope b) objects links s (few-told scope b)
 
 -- its start is accepted
-module _ (b : List ℕ) (objects links : ℕ) (s : Stores) (begins : stepOn (start objects links) s .told .number ≡ 0) where
+module _ (scope : Scope) (b : List ℕ) (objects links : ℕ) (s : Stores) (begins : stepOn (start objects links) s .told .number ≡ 0) where
   abbrev told : ReadTold
-  told = readStep b objects links s .told
+  told = readStep scope b objects links s .told
 
   -- the calls on the history, and what it is after the start
   abbrev call : StoreCall → History → Step History
@@ -61,11 +62,11 @@ module _ (b : List ℕ) (objects links : ℕ) (s : Stores) (begins : stepOn (sta
   fresh = begun (limitsOf objects links (s .bytes))
 
   abbrev came : Outcome History
-  came = perform call (gsubOps b) 0 fresh
+  came = perform call (gsubOps scope b) 0 fresh
 
   told-is : told ≡ toldOf counts came
   unfolding opsExpected
-  told-is = read-told (gsubOps b) objects links s (needs .work) ∙ rw (sym (start-number objects links s) ∙ begins)
+  told-is = read-told (gsubOps scope b) objects links s (needs .work) ∙ rw (sym (start-number objects links s) ∙ begins)
 
   -- no call of the eight tells 15
   never-bad : (c : StoreCall) (h : History) → call c h .number ≡ badTable → ⊥
@@ -77,9 +78,9 @@ module _ (b : List ℕ) (objects links : ℕ) (s : Stores) (begins : stepOn (sta
       go (refused why) t u i e = true≢false (sym (rw e at (number-range why .1)))
 
   -- 15 is told with a place exactly where a field that is refused at that place is reached
-  pub bad-exactly : (place : ℕ) → Exactly ((told .number ≡ badTable) × (told .place ≡ place)) (Reaches call (gsubOps b) 0 fresh (stop place))
+  pub bad-exactly : (place : ℕ) → Exactly ((told .number ≡ badTable) × (told .place ≡ place)) (Reaches call (gsubOps scope b) 0 fresh (stop place))
   bad-exactly place =
-      let t = told-stop call never-bad (gsubOps b) 0 fresh place in
+      let t = told-stop call never-bad (gsubOps scope b) 0 fresh place in
       rw told-is record { only = λ e. t .only (go (eqb (came .number) 0) e); when = λ r. let e = t .when r in rw (e .0) (refl, e .1) }
     where
       go : (x : Bool) → (pick x (doneRead (came .id) (counts (came .next))) (refusedRead (came .number) (came .place)) .number ≡ badTable) × (pick x (doneRead (came .id) (counts (came .next))) (refusedRead (came .number) (came .place)) .place ≡ place) → (came .number ≡ badTable) × (came .place ≡ place)
@@ -87,12 +88,12 @@ module _ (b : List ℕ) (objects links : ℕ) (s : Stores) (begins : stepOn (sta
       go false (e, q) = (e, q)
 
   -- and that is a field of a table that offsets lead to from the header on, which passes the end, holds another number than it must, or is a zero offset
-  pub bad-field : told .number ≡ badTable → BadAt b (told .place)
+  pub bad-field : told .number ≡ badTable → BadAt scope b (told .place)
   bad-field e =
       let r = bad-exactly (told .place) .only (e, refl) in
       let m : List·Memᴰ (stop (told .place)) (r .before ++ (stop (told .place) ∷ r .behind)) = Memᴰ·append-right (r .before) (List·Memᴰ·head refl) in
-      stops-exactly b (told .place) .only (rw (r .whole) m)
+      stops-exactly scope b (told .place) .only (rw (r .whole) m)
 
   -- the first op that is refused settles what is told
-  pub first-refusal : (told .number ≡ 0 → ⊥) → Settles call (gsubOps b) 0 fresh
-  first-refusal n = earliest call (gsubOps b) 0 fresh (λ z. n (rw (told-is, eq-eqb (came .number) 0 z)))
+  pub first-refusal : (told .number ≡ 0 → ⊥) → Settles call (gsubOps scope b) 0 fresh
+  first-refusal n = earliest call (gsubOps scope b) 0 fresh (λ z. n (rw (told-is, eq-eqb (came .number) 0 z)))

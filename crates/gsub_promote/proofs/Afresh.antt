@@ -19,6 +19,7 @@ use Rattle.work.specs.Areas.{workNeed}
 use Rattle.steps.specs.Steps.{tallyIn}
 use Rattle.steps.specs.Runs.{Stores, start, stepOn, pack, lentStep}
 use Rattle.steps.specs.Pack.{packBy, packStep}
+use Rattle.gsub.specs.declared.Scope.{Scope}
 use Rattle.gsub.specs.declared.Mode.the-variants.{Last as last}
 use Rattle.gsub.specs.Refusals.{tellable}
 use Rattle.gsub.specs.Promote.{trialOps}
@@ -43,9 +44,9 @@ pack-kept id copies s out work n =
 
 -- ---- a trial's read does not tell 11
 
-pub read-never : (b : List ℕ) (objects links n : ℕ) (s : Stores) → opsStep (trialOps n b) objects links s .told .number ≡ 11 → ⊥
+pub read-never : (scope : Scope) (b : List ℕ) (objects links n : ℕ) (s : Stores) → opsStep (trialOps scope n b) objects links s .told .number ≡ 11 → ⊥
 unfolding tellable
-read-never b objects links n s e = true≢false (sym (rw e at (read-tells (trialOps n b) objects links s (λ needs bytes words m. tells-few needs bytes words b (last n) m))))
+read-never scope b objects links n s e = true≢false (sym (rw e at (read-tells (trialOps scope n b) objects links s (λ needs bytes words m. tells-few needs bytes words scope b (last n) m))))
 
 -- ---- a trial whose pack is refused 11
 
@@ -55,7 +56,7 @@ over-read t e = eqb-true (t .read .told .number) 0 (and-left (eqb (t .read .told
 pub over-pack : (t : Trial) → overflows t ≡ true → t .pack .told .number ≡ 11
 over-pack t e = eqb-true (t .pack .told .number) 11 (and-right (eqb (t .read .told .number) 0) _ e)
 
-module _ (b : List ℕ) (objects links : ℕ) (x : Lent) where
+module _ (scope : Scope) (b : List ℕ) (objects links : ℕ) (x : Lent) where
   -- a start in y is accepted, and leaves what it leaves in x
   pub record Afresh (y : Lent) : Type 0 where
     pub begins : stepOn (start objects links) (y .stores) .told .number ≡ 0
@@ -65,14 +66,14 @@ module _ (b : List ℕ) (objects links : ℕ) (x : Lent) where
     pub output : y .out ≡ x .out
 
   -- a start after an accepted read of y
-  pub anew : (n : ℕ) (y : Lent) → Afresh y → let s = trial b objects links n y .read .stores in
-      trial b objects links n y .read .told .number ≡ 0 → stepOn (start objects links) s .stores ≡ stepOn (start objects links) (x .stores) .stores
-  anew n y a e = fresh objects links (y .stores) (a .begins) _ (read-begun (trialOps n b) objects links (y .stores) e) ∙ a .same
+  pub anew : (n : ℕ) (y : Lent) → Afresh y → let s = trial scope b objects links n y .read .stores in
+      trial scope b objects links n y .read .told .number ≡ 0 → stepOn (start objects links) s .stores ≡ stepOn (start objects links) (x .stores) .stores
+  anew n y a e = fresh objects links (y .stores) (a .begins) _ (read-begun (trialOps scope n b) objects links (y .stores) e) ∙ a .same
 
-  afresh-next : (n : ℕ) (y : Lent) → Afresh y → overflows (trial b objects links n y) ≡ true → Afresh (leftBy (trial b objects links n y))
+  afresh-next : (n : ℕ) (y : Lent) → Afresh y → overflows (trial scope b objects links n y) ≡ true → Afresh (leftBy (trial scope b objects links n y))
   afresh-next n y a e =
-      let t = trial b objects links n y in
-      let k = read-begun (trialOps n b) objects links (y .stores) (over-read t e) in
+      let t = trial scope b objects links n y in
+      let k = read-begun (trialOps scope n b) objects links (y .stores) (over-read t e) in
       record {
         begins = same-number objects links (y .stores) (t .read .stores) (k .sameBytes) (k .sameWords) ∙ a .begins;
         same = anew n y a (over-read t e);
@@ -81,7 +82,7 @@ module _ (b : List ℕ) (objects links : ℕ) (x : Lent) where
         output = pack-kept (t .read .told .id) 0 (t .read .stores) (y .out) (y .work) (λ z. omega (arith, over-pack t e)) ∙ a .output;
       }
 
-  pub afresh-at : stepOn (start objects links) (x .stores) .told .number ≡ 0 → (n : ℕ) → ((i : ℕ) → i < n → overflows (trialAt b objects links x i) ≡ true) → Afresh (before b objects links x n)
+  pub afresh-at : stepOn (start objects links) (x .stores) .told .number ≡ 0 → (n : ℕ) → ((i : ℕ) → i < n → overflows (trialAt scope b objects links x i) ≡ true) → Afresh (before scope b objects links x n)
   unfolding before
   afresh-at z zero h = record { begins = z; same = refl; sameBytes = refl; sameWords = refl; output = refl }
-  afresh-at z (suc n) h = afresh-next n (before b objects links x n) (afresh-at z n (λ i l. h i (omega arith))) (h n (omega arith))
+  afresh-at z (suc n) h = afresh-next n (before scope b objects links x n) (afresh-at z n (λ i l. h i (omega arith))) (h n (omega arith))

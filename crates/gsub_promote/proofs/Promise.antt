@@ -19,6 +19,7 @@ use Rattle.model_orders.specs.Reading.{readingAt, readings}
 use Rattle.model.specs.Judge.{Limits}
 use Rattle.layout.specs.Decode.{decode}
 use Rattle.steps.specs.Runs.{StoreCall, Stores, start, stepOn, leftAfter, needsWith}
+use Rattle.gsub.specs.declared.Scope.{Scope}
 use Rattle.gsub.specs.declared.Mode.the-variants.{Last as last}
 use Rattle.gsub.specs.Meaning.{gsubReading}
 use Rattle.gsub.specs.Substitute.{substitute, substituteFrom}
@@ -77,24 +78,24 @@ module _ (objects links n : ℕ) (y : Lent) (t : Trial) where
       go true e false z = rw (e, eq-eqb (t .pack .told .number) 11 z)
       go false e p z = absurd (never z)
 
-module _ (b : List ℕ) (objects links : ℕ) (x : Lent) where
+module _ (scope : Scope) (b : List ℕ) (objects links : ℕ) (x : Lent) where
   abbrev at : ℕ → Trial
-  at n = trialAt b objects links x n
+  at n = trialAt scope b objects links x n
 
   abbrev promoted : PromoteLeft
-  promoted = promoteStep b objects links x
+  promoted = promoteStep scope b objects links x
 
   abbrev s₁ : Stores
   s₁ = stepOn (start objects links) (x .stores) .stores
 
-  ending : EndsAt b objects links x 0 (lookupCount b) promoted
-  ending = promote-ends b objects links x
+  ending : EndsAt scope b objects links x 0 (lookupCount b) promoted
+  ending = promote-ends scope b objects links x
 
   abbrev tried : ℕ
   tried = ending .lookups
 
   abbrev state : Lent
-  state = before b objects links x tried
+  state = before scope b objects links x tried
 
   told-is : ended objects links tried state (at tried) .told .number ≡ promoted .told .number
   told-is = ap (λ l. l .told .number) (sym (ending .is))
@@ -102,14 +103,14 @@ module _ (b : List ℕ) (objects links : ℕ) (x : Lent) where
   earlier : (i : ℕ) → i < tried → overflows (at i) ≡ true
   earlier i l = ending .earlier i (omega arith) l
 
-  pub first-reads : at 0 .read ≡ readStep b objects links (x .stores)
+  pub first-reads : at 0 .read ≡ readStep scope b objects links (x .stores)
   unfolding before
-  first-reads = ap (λ ops. opsStep ops objects links (x .stores)) (none-promoted b)
+  first-reads = ap (λ ops. opsStep ops objects links (x .stores)) (none-promoted scope b)
 
   -- ---- 11
 
   last-over : promoted .told .number ≡ 11 → overflows (at tried) ≡ true
-  last-over z = ended-over objects links tried state (at tried) (read-never b objects links tried (state .stores)) (told-is ∙ z)
+  last-over z = ended-over objects links tried state (at tried) (read-never scope b objects links tried (state .stores)) (told-is ∙ z)
 
   -- it is the trial of all lookups
   tried-all : promoted .told .number ≡ 11 → tried ≡ lookupCount b
@@ -143,8 +144,8 @@ module _ (b : List ℕ) (objects links : ℕ) (x : Lent) where
   none-beside w = ap (λ l. l .told .lookups) (ending .is) ∙ ended-none objects links tried state (at tried) (λ q. w (sym told-is ∙ q))
 
   module _ (begins : stepOn (start objects links) (x .stores) .told .number ≡ 0) where
-    afresh : Afresh b objects links x state
-    afresh = afresh-at b objects links x begins tried earlier
+    afresh : Afresh scope b objects links x state
+    afresh = afresh-at scope b objects links x begins tried earlier
 
     pub refused-fresh : (promoted .told .number ≡ 0 → ⊥) → promoted .left .stores ≡ s₁
     refused-fresh w = ap (λ l. l .left .stores) (ending .is) ∙ go (eqb (t .read .told .number) 0) refl (eqb (t .pack .told .number) 0) (λ q. w (sym told-is ∙ q))
@@ -154,8 +155,8 @@ module _ (b : List ℕ) (objects links : ℕ) (x : Lent) where
 
         go : (r : Bool) → eqb (t .read .told .number) 0 ≡ r → (p : Bool) → (by objects links tried state t r p .told .number ≡ 0 → ⊥) → by objects links tried state t r p .left .stores ≡ s₁
         go true e true w = absurd (w refl)
-        go true e false w = anew b objects links x tried state afresh (eqb-true _ 0 e)
-        go false e p w = read-fresh (trialOps tried b) objects links (state .stores) w ∙ afresh .same
+        go true e false w = anew scope b objects links x tried state afresh (eqb-true _ 0 e)
+        go false e p w = read-fresh (trialOps scope tried b) objects links (state .stores) w ∙ afresh .same
 
     -- ---- accepted
 
@@ -164,28 +165,28 @@ module _ (b : List ℕ) (objects links : ℕ) (x : Lent) where
     pub record Found (l : PromoteLeft) : Type 0 where
       pub few : l .told .lookups ≤ lookupCount b
       pub earlier-over : (i : ℕ) → i < l .told .lookups → overflows (at i) ≡ true
-      pub reads : let s = l .left .stores in readingAt (readings (decode (s .bytes) (s .words) .closed)) (l .told .id) ≡ trialReading (l .told .lookups) b
-      pub again : gsubReading (tableOf l) ≡ trialReading (l .told .lookups) b
+      pub reads : let s = l .left .stores in readingAt (readings (decode (s .bytes) (s .words) .closed)) (l .told .id) ≡ trialReading scope (l .told .lookups) b
+      pub again : gsubReading scope (tableOf l) ≡ trialReading scope (l .told .lookups) b
       pub substitutes : (lookup glyph : ℕ) → substituteFrom (tableOf l) lookup glyph ≡ substituteFrom b lookup glyph
-      pub listed : (work : Limits → ℕ → ℕ) → l .left .stores ≡ leftAfter (opsCalls (needsWith work) (length (x .stores .bytes)) (length (x .stores .words)) (trialOps (l .told .lookups) b) objects links) (x .stores)
+      pub listed : (work : Limits → ℕ → ℕ) → l .left .stores ≡ leftAfter (opsCalls (needsWith work) (length (x .stores .bytes)) (length (x .stores .words)) (trialOps scope (l .told .lookups) b) objects links) (x .stores)
 
     accepted-found : (n : ℕ) → n ≤ lookupCount b → ((i : ℕ) → i < n → overflows (at i) ≡ true) → at n .read .told .number ≡ 0 → at n .pack .told .number ≡ 0 → Found (promotedBy n (at n))
     unfolding opsCalls leftAfter
     accepted-found n m h r p =
-        let y = before b objects links x n in
-        let a = afresh-at b objects links x begins n h in
-        let t = packed-again (in-mode (last n) b) objects links (y .stores) r 0 (y .out) (y .work) p in
-        let c = clean (in-mode (last n) b) objects links (y .stores) r in
+        let y = before scope b objects links x n in
+        let a = afresh-at scope b objects links x begins n h in
+        let t = packed-again (in-mode scope (last n) b) objects links (y .stores) r 0 (y .out) (y .work) p in
+        let c = clean (in-mode scope (last n) b) objects links (y .stores) r in
         let table = tableIn (at n .pack) in
         record {
           few = m;
           earlier-over = h;
-          reads = root-reads (in-mode (last n) b) objects links (y .stores) r;
+          reads = root-reads (in-mode scope (last n) b) objects links (y .stores) r;
           again = t .reading;
-          substitutes = λ l g. substitute-read table (rw (t .ops-same) c) l g ∙ ap (λ r. substitute r l g) (t .reading) ∙ sym (trial-substitutes n b c l g);
+          substitutes = λ l g. substitute-read scope table (rw (t .ops-same) c) l g ∙ ap (λ r. substitute r l g) (t .reading) ∙ sym (trial-substitutes scope n b c l g);
           listed = λ work.
-              read-listed (trialOps n b) objects links (y .stores) work
-              ∙ (λ i. leftAfter (behindStart (opsCalls (needsWith work) (a .sameBytes i) (a .sameWords i) (trialOps n b) objects links)) (a .same i));
+              read-listed (trialOps scope n b) objects links (y .stores) work
+              ∙ (λ i. leftAfter (behindStart (opsCalls (needsWith work) (a .sameBytes i) (a .sameWords i) (trialOps scope n b) objects links)) (a .same i));
         }
 
     pub found : promoted .told .number ≡ 0 → Found promoted
@@ -198,7 +199,7 @@ module _ (b : List ℕ) (objects links : ℕ) (x : Lent) where
       pub is : l ≡ promotedBy (l .told .lookups) (at (l .told .lookups))
       pub read : at (l .told .lookups) .read .told .number ≡ 0
       pub pack : at (l .told .lookups) .pack .told .number ≡ 0
-      pub afresh : Afresh b objects links x (before b objects links x (l .told .lookups))
+      pub afresh : Afresh scope b objects links x (before scope b objects links x (l .told .lookups))
 
     pub found-trial : promoted .told .number ≡ 0 → IsTrial promoted
     found-trial z =
@@ -207,19 +208,19 @@ module _ (b : List ℕ) (objects links : ℕ) (x : Lent) where
 
     -- ---- in a list of calls
 
-    begun-listed : (work : Limits → ℕ → ℕ) → promoted .left .stores ≡ leftAfter (promoteCalls (needsWith work) (length (x .stores .bytes)) (length (x .stores .words)) b objects links (promoted .told)) (x .stores)
+    begun-listed : (work : Limits → ℕ → ℕ) → promoted .left .stores ≡ leftAfter (promoteCalls (needsWith work) (length (x .stores .bytes)) (length (x .stores .words)) scope b objects links (promoted .told)) (x .stores)
     unfolding leftAfter
     begun-listed work = go (eqb (promoted .told .number) 0) refl
       where
         go : (t : Bool) → eqb (promoted .told .number) 0 ≡ t
-            → promoted .left .stores ≡ leftAfter (pick t (opsCalls (needsWith work) (length (x .stores .bytes)) (length (x .stores .words)) (trialOps (promoted .told .lookups) b) objects links) (start objects links ∷ [])) (x .stores)
+            → promoted .left .stores ≡ leftAfter (pick t (opsCalls (needsWith work) (length (x .stores .bytes)) (length (x .stores .words)) (trialOps scope (promoted .told .lookups) b) objects links) (start objects links ∷ [])) (x .stores)
         go true e = found (eqb-true _ 0 e) .listed work
         go false e = refused-fresh (eqb-false _ 0 e)
 
   -- ---- a refused start is the first trial's, which ends the look
 
   module _ (begins : stepOn (start objects links) (x .stores) .told .number ≡ 0 → ⊥) where
-    unread-first : ended objects links 0 (before b objects links x 0) (at 0) .left ≡ lent s₁ (x .out) (x .work)
+    unread-first : ended objects links 0 (before scope b objects links x 0) (at 0) .left ≡ lent s₁ (x .out) (x .work)
     unfolding before opsStep
     unread-first = rw (ne-eqb (stepOn (start objects links) (x .stores) .told .number) 0 begins, ne-eqb (stepOn (start objects links) (x .stores) .told .number) 0 begins)
 
@@ -237,7 +238,7 @@ module _ (b : List ℕ) (objects links : ℕ) (x : Lent) where
     pub untouched : promoted .left ≡ x
     untouched =
         ap (λ l. l .left) (ending .is)
-        ∙ ap (λ n. ended objects links n (before b objects links x n) (at n) .left) tried-first
+        ∙ ap (λ n. ended objects links n (before scope b objects links x n) (at n) .left) tried-first
         ∙ unread-first
         ∙ ap (λ s. lent s (x .out) (x .work)) (refused-stands objects links (x .stores) begins)
 
@@ -246,12 +247,12 @@ module _ (b : List ℕ) (objects links : ℕ) (x : Lent) where
 
   -- ---- in a list of calls
 
-  pub promote-listed : (work : Limits → ℕ → ℕ) → promoted .left .stores ≡ leftAfter (promoteCalls (needsWith work) (length (x .stores .bytes)) (length (x .stores .words)) b objects links (promoted .told)) (x .stores)
+  pub promote-listed : (work : Limits → ℕ → ℕ) → promoted .left .stores ≡ leftAfter (promoteCalls (needsWith work) (length (x .stores .bytes)) (length (x .stores .words)) scope b objects links (promoted .told)) (x .stores)
   unfolding leftAfter
   promote-listed work = go (eqb (stepOn (start objects links) (x .stores) .told .number) 0) refl
     where
       go : (t : Bool) → eqb (stepOn (start objects links) (x .stores) .told .number) 0 ≡ t
-          → promoted .left .stores ≡ leftAfter (promoteCalls (needsWith work) (length (x .stores .bytes)) (length (x .stores .words)) b objects links (promoted .told)) (x .stores)
+          → promoted .left .stores ≡ leftAfter (promoteCalls (needsWith work) (length (x .stores .bytes)) (length (x .stores .words)) scope b objects links (promoted .told)) (x .stores)
       go true e = begun-listed (eqb-true _ 0 e) work
       go false e =
           let n = eqb-false _ 0 e in

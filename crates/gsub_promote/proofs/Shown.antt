@@ -20,6 +20,7 @@ use Rattle.steps.proofs.Tallies.{count-decode}
 use Rattle.claims.specs.Orders.{graphIn, tableOn, Ordered}
 use Rattle.claims.proofs.Packs.{base}
 use Rattle.claims.proofs.Orders.{accepted-ordered}
+use Rattle.gsub.specs.declared.Scope.{Scope}
 use Rattle.gsub.specs.declared.Kind.the-variants.{Header}
 use Rattle.gsub.specs.declared.Mode.{Mode}
 use Rattle.gsub.specs.Ops.{Op, tableOps, perform}
@@ -59,19 +60,19 @@ module _ (s : Stores) (id copies : ℕ) (out work : List ℕ) (z : lentStep (pac
 
 -- ---- ops that write a table which reads r, and is read again so
 
-pub record Readable (ops : List Op) (r : Reading) : Type 0 where
+pub record Readable (scope : Scope) (ops : List Op) (r : Reading) : Type 0 where
   pub reads : (n : Needs) (bytes words : ℕ) → ReadsAs n bytes words ops r
-  pub again : (n : Needs) (bytes words : ℕ) (h : History) (t : List ℕ) → perform (byHistory n bytes words) ops 0 h .number ≡ 0 → Shows t 0 r → (Wide r → Apart t 0 r) → Again n bytes words h ops r t
+  pub again : (n : Needs) (bytes words : ℕ) (h : History) (t : List ℕ) → perform (byHistory n bytes words) ops 0 h .number ≡ 0 → Shows t 0 r → (Wide r → Apart t 0 r) → Again scope n bytes words h ops r t
 
-pub in-mode : (m : Mode) (b : List ℕ) → Readable (modeOps deepest b m Header 0) (modeReading deepest b m Header 0)
-in-mode m b = record { reads = λ n bytes words. mode-reads n bytes words deepest b m Header 0; again = λ n bytes words h. mode-read-again n bytes words h m b }
+pub in-mode : (scope : Scope) (m : Mode) (b : List ℕ) → Readable scope (modeOps deepest b m (Header scope) 0) (modeReading deepest b m (Header scope) 0)
+in-mode scope m b = record { reads = λ n bytes words. mode-reads n bytes words deepest b m (Header scope) 0; again = λ n bytes words h. mode-read-again scope n bytes words h m b }
 
-pub as-it-stands : (b : List ℕ) → Readable (tableOps deepest b Header 0) (gsubReading b)
-as-it-stands b = record { reads = λ n bytes words. table-reads n bytes words deepest b Header 0; again = λ n bytes words h. read-again n bytes words h b }
+pub as-it-stands : (scope : Scope) (b : List ℕ) → Readable scope (tableOps deepest b (Header scope) 0) (gsubReading scope b)
+as-it-stands scope b = record { reads = λ n bytes words. table-reads n bytes words deepest b (Header scope) 0; again = λ n bytes words h. read-again scope n bytes words h b }
 
 -- ---- an accepted read by such ops
 
-module _ {ops : List Op} {reading : Reading} (f : Readable ops reading) (objects links : ℕ) (s : Stores) (accepted : opsStep ops objects links s .told .number ≡ 0) where
+module _ {scope : Scope} {ops : List Op} {reading : Reading} (f : Readable scope ops reading) (objects links : ℕ) (s : Stores) (accepted : opsStep ops objects links s .told .number ≡ 0) where
   abbrev after : Stores
   after = opsStep ops objects links s .stores
 
@@ -96,7 +97,7 @@ module _ {ops : List Op} {reading : Reading} (f : Readable ops reading) (objects
 
   -- of the table that an accepted pack of the root left
   pub packed-again : (copies : ℕ) (out work : List ℕ) → let l = lentStep (pack root copies out work) after in l .told .number ≡ 0
-      → Again (needsWith noWork) (length (s .bytes)) (length (s .words)) (begun (limitsOf objects links (s .bytes))) ops reading (tableIn l)
+      → Again scope (needsWith noWork) (length (s .bytes)) (length (s .words)) (begun (limitsOf objects links (s .bytes))) ops reading (tableIn l)
   packed-again copies out work z =
       let k = shown-apart after root copies out work z in
       f .again (needsWith noWork) (length (s .bytes)) (length (s .words)) (begun (limitsOf objects links (s .bytes))) (tableIn (lentStep (pack root copies out work) after)) (held .done-too) (rw root-reads at (k .shown)) (rw root-reads at (k .apart))

@@ -20,6 +20,7 @@ use Rattle.model.proofs.Verdicts.{refused-number}
 use Rattle.layout.specs.Sound.{sound}
 use Rattle.steps.specs.Runs.{Stores, stores, pack, packLeft, leftByPack, lentStep}
 use Rattle.steps.specs.Pack.{PackOut, packed, packStep}
+use Rattle.gsub.specs.declared.Scope.{Scope}
 use Rattle.gsub.specs.Promote.{trialOps}
 use Rattle.gsub_read.specs.declared.answers.ReadAnswer.{ReadAnswer}
 use Rattle.gsub_read.specs.declared.answers.ReadAnswer.the-variants.{Done, BadTable, Refused}
@@ -79,25 +80,25 @@ module _ (objects links n : ℕ) (x : Lent) where
   packed-tried i t (Packing.Done made u) s out work = (refl, refl)
   packed-tried i t (Packing.Refused why u) s out work = (refl, refl, rw (ne-eqb (number why) 0 (λ q. omega (arith, refused-number why))))
 
-module _ (b : List ℕ) (objects links n : ℕ) (x : Lent) (a : ReadAnswer) {s : Stores} (e : readLeft (toldByRead a) (s .bytes) (s .words) ≡ opsStep (trialOps n b) objects links (x .stores)) where
+module _ (scope : Scope) (b : List ℕ) (objects links n : ℕ) (x : Lent) (a : ReadAnswer) {s : Stores} (e : readLeft (toldByRead a) (s .bytes) (s .words) ≡ opsStep (trialOps scope n b) objects links (x .stores)) where
   never : toldByRead a .number ≡ 11 → ⊥
-  never z = read-never b objects links n (x .stores) (ap (λ (r : ReadLeft). r .told .number) (sym e) ∙ z)
+  never z = read-never scope b objects links n (x .stores) (ap (λ (r : ReadLeft). r .told .number) (sym e) ∙ z)
 
   pub tried-unread : ((i : ObjectId) (t : Tally) → a ≡ Done i t → ⊥) → {r : PromoteAnswer} → r ≡ unreadOf a
-      → TriedBy objects links n x (trial b objects links n x) (Ended r) (lent s (x .out) (x .work))
+      → TriedBy objects links n x (trial scope b objects links n x) (Ended r) (lent s (x .out) (x .work))
   tried-unread d q = rw q (subst (λ r. TriedBy objects links n x (after r x) (Ended (unreadOf a)) (lent s (x .out) (x .work))) e (unread-tried objects links n x a s d never))
 
   module _ (i : ObjectId) (t : Tally) (d : a ≡ Done i t) where
     pub read-sound : sound (s .bytes) (s .words) ≡ true
     read-sound =
-        let told : opsStep (trialOps n b) objects links (x .stores) .told .number ≡ 0 = ap (λ (r : ReadLeft). r .told .number) (sym e) ∙ ap (λ z. toldByRead z .number) d in
-        subst (λ (r : ReadLeft). sound (r .stores .bytes) (r .stores .words) ≡ true) (sym e) (read-begun (trialOps n b) objects links (x .stores) told .isSound)
+        let told : opsStep (trialOps scope n b) objects links (x .stores) .told .number ≡ 0 = ap (λ (r : ReadLeft). r .told .number) (sym e) ∙ ap (λ z. toldByRead z .number) d in
+        subst (λ (r : ReadLeft). sound (r .stores .bytes) (r .stores .words) ≡ true) (sym e) (read-begun (trialOps scope n b) objects links (x .stores) told .isSound)
 
     pub tried-packed : {p : Packing} {out work : List ℕ} {r : Tried} → packed p out work ≡ packStep (i .0) 0 (s .bytes) (s .words) (x .out) (x .work) → r ≡ triedOf n i t p
-        → TriedBy objects links n x (trial b objects links n x) r (lent s out work)
+        → TriedBy objects links n x (trial scope b objects links n x) r (lent s out work)
     unfolding lentStep
     tried-packed {p} {out} {work} q h =
-        let told : readLeft (toldByRead (Done i t)) (s .bytes) (s .words) ≡ opsStep (trialOps n b) objects links (x .stores) = ap (λ z. readLeft (toldByRead z) (s .bytes) (s .words)) (sym d) ∙ e in
+        let told : readLeft (toldByRead (Done i t)) (s .bytes) (s .words) ≡ opsStep (trialOps scope n b) objects links (x .stores) = ap (λ z. readLeft (toldByRead z) (s .bytes) (s .words)) (sym d) ∙ e in
         rw h (subst (λ r. TriedBy objects links n x (after r x) (triedOf n i t p) (lent s out work)) told
         (subst (λ (o : PackOut). TriedBy objects links n x (record { read = readLeft (toldByRead (Done i t)) (s .bytes) (s .words); pack = leftByPack s o }) (triedOf n i t p) (lent s out work)) q
         (packed-tried objects links n x i t p s out work)))

@@ -1,4 +1,4 @@
--- docs/RULES.md, 15.4 to 15.8: the look for the least number of last lookups whose promotion packs: from none on, each trial a read from a start, and a pack of its
+-- docs/RULES.md, 15.4 to 15.8 and 16.1: the look for the least number of last lookups whose promotion packs: from none on, each trial a read from a start, and a pack of its
 -- root without copies.
 use Prim.Native.Nat.{ℕ, zero, suc}
 use mathlib.Core.List.{List, [], _∷_}
@@ -11,6 +11,7 @@ use Rattle.answer.specs.declared.tally.Tally.{Tally}
 use Rattle.answer.specs.declared.Overflow.{Overflow}
 use Rattle.model.specs.Session.{Needs}
 use Rattle.steps.specs.Runs.{StoreCall, Stores, start, stepOn, pack, LentLeft, lentStep}
+use Rattle.gsub.specs.declared.Scope.{Scope}
 use Rattle.gsub.specs.Tables.{wordAt}
 use Rattle.gsub.specs.Promote.{trialOps}
 use Rattle.gsub_read.specs.Read.{ReadLeft, opsStep, opsCalls}
@@ -38,8 +39,8 @@ pub record Trial : Type 0 where
 abbrev pub packOf : ReadLeft → Lent → LentLeft
 packOf r x = lentStep (pack (r .told .id) 0 (x .out) (x .work)) (r .stores)
 
-abbrev pub trial : List ℕ → ℕ → ℕ → ℕ → Lent → Trial
-trial b objects links n x = let r = opsStep (trialOps n b) objects links (x .stores) in record { read = r; pack = packOf r x }
+abbrev pub trial : Scope → List ℕ → ℕ → ℕ → ℕ → Lent → Trial
+trial scope b objects links n x = let r = opsStep (trialOps scope n b) objects links (x .stores) in record { read = r; pack = packOf r x }
 
 -- what it leaves to the next one
 abbrev pub leftBy : Trial → Lent
@@ -96,29 +97,29 @@ ended objects links n x t = pick (eqb (t .read .told .number) 0) (pick (eqb (t .
 
 -- ---- the trials from n on, at most `more` after it: each while the one before it is refused 11
 
-unfoldable pub lookFrom : List ℕ → ℕ → ℕ → ℕ → ℕ → Lent → PromoteLeft
-lookFrom b objects links zero n x = ended objects links n x (trial b objects links n x)
-lookFrom b objects links (suc more) n x =
-    let t = trial b objects links n x in
-    pick (overflows t) (lookFrom b objects links more (suc n) (leftBy t)) (ended objects links n x t)
+unfoldable pub lookFrom : Scope → List ℕ → ℕ → ℕ → ℕ → ℕ → Lent → PromoteLeft
+lookFrom scope b objects links zero n x = ended objects links n x (trial scope b objects links n x)
+lookFrom scope b objects links (suc more) n x =
+    let t = trial scope b objects links n x in
+    pick (overflows t) (lookFrom scope b objects links more (suc n) (leftBy t)) (ended objects links n x t)
 
 -- lookupCount of the LookupList
 abbrev pub lookupCount : List ℕ → ℕ
 lookupCount b = wordAt b (wordAt b 8)
 
-unfoldable pub promoteStep : List ℕ → ℕ → ℕ → Lent → PromoteLeft
-promoteStep b objects links x = lookFrom b objects links (lookupCount b) 0 x
+unfoldable pub promoteStep : Scope → List ℕ → ℕ → ℕ → Lent → PromoteLeft
+promoteStep scope b objects links x = lookFrom scope b objects links (lookupCount b) 0 x
 
 -- ---- what is promised of it
 
 -- the memory before the trial of n, all before it having been made
-unfoldable pub before : List ℕ → ℕ → ℕ → Lent → ℕ → Lent
-before b objects links x zero = x
-before b objects links x (suc n) = leftBy (trial b objects links n (before b objects links x n))
+unfoldable pub before : Scope → List ℕ → ℕ → ℕ → Lent → ℕ → Lent
+before scope b objects links x zero = x
+before scope b objects links x (suc n) = leftBy (trial scope b objects links n (before scope b objects links x n))
 
-abbrev pub trialAt : List ℕ → ℕ → ℕ → Lent → ℕ → Trial
-trialAt b objects links x n = trial b objects links n (before b objects links x n)
+abbrev pub trialAt : Scope → List ℕ → ℕ → ℕ → Lent → ℕ → Trial
+trialAt scope b objects links x n = trial scope b objects links n (before scope b objects links x n)
 
 -- the session calls that a promotion stands as in a list of calls: those of the read of the trial accepted, or its start alone
-abbrev pub promoteCalls : Needs → ℕ → ℕ → List ℕ → ℕ → ℕ → PromoteTold → List StoreCall
-promoteCalls n bytes words b objects links t = pick (eqb (t .number) 0) (opsCalls n bytes words (trialOps (t .lookups) b) objects links) (start objects links ∷ [])
+abbrev pub promoteCalls : Needs → ℕ → ℕ → Scope → List ℕ → ℕ → ℕ → PromoteTold → List StoreCall
+promoteCalls n bytes words scope b objects links t = pick (eqb (t .number) 0) (opsCalls n bytes words (trialOps scope (t .lookups) b) objects links) (start objects links ∷ [])

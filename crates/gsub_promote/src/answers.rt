@@ -14,7 +14,7 @@ ghost use Rattle.gsub_promote.specs.Tried.{unreadOf, answerOf};
 // The number of a pack in which an offset does not fit its field.
 const OVERFLOW: u64 = 11;
 
-// How many lookups are promoted, the root's id and the table's length; the place of the field that no GSUB 1.0 table has there; a session refusal.
+// How many lookups are promoted, the root's id and the table's length; the place of the field that no such table has there; a session refusal.
 pub enum PromoteAnswer {
     Done(usize, ObjectId, usize, Tally),
     BadTable(usize),

@@ -6,6 +6,7 @@ use answer::Packing;
 use answer::Refusal;
 use answer::Tally;
 use gsub::Mode;
+use gsub::Scope;
 use gsub_read::ReadAnswer;
 use gsub_read::read_in;
 use pack::pack_sound;
@@ -39,13 +40,14 @@ pub fn try_last(
     objects: u32,
     links: u32,
     table: &[u8],
+    scope: Scope,
     n: usize,
     out: &mut [u8],
     work: &mut [u64],
 ) -> Tried
-    ensures { λ r. ⌜ TriedBy objects links n (lent (stores (now (store .entry)) (now (records .entry))) (now (out .entry)) (now (work .entry))) (trial (now (table .entry)) objects links n (lent (stores (now (store .entry)) (now (records .entry))) (now (out .entry)) (now (work .entry)))) r (lent (stores (now (store .exit)) (now (records .exit))) (now (out .exit)) (now (work .exit))) ⌝ }
+    ensures { λ r. ⌜ TriedBy objects links n (lent (stores (now (store .entry)) (now (records .entry))) (now (out .entry)) (now (work .entry))) (trial scope (now (table .entry)) objects links n (lent (stores (now (store .entry)) (now (records .entry))) (now (out .entry)) (now (work .entry)))) r (lent (stores (now (store .exit)) (now (records .exit))) (now (out .exit)) (now (work .exit))) ⌝ }
 {
-    let a = read_in(store, records, objects, links, table, Mode::Last(n));
+    let a = read_in(store, records, objects, links, table, scope, Mode::Last(n));
     let ReadAnswer::Done(id, t) = a else {
         return Tried::Ended(unread(a));
     };

@@ -25,6 +25,7 @@ use Rattle.steps.specs.Mirrored.{byStores, byHistory}
 use Rattle.steps.proofs.Steps.{start-drawn}
 use Rattle.steps.proofs.Mirrored.{Stands, mirrored-counts}
 use Rattle.steps.proofs.Surplus.{needOf}
+use Rattle.gsub.specs.declared.Scope.{Scope}
 use Rattle.gsub.specs.Ops.{Op, Outcome, perform}
 use Rattle.gsub.specs.Meaning.{deepest}
 use Rattle.gsub.specs.declared.Mode.the-variants.{Plain as plain}
@@ -60,8 +61,8 @@ told-number count o = go (eqb (o .number) 0) refl
 abbrev pub FewTold : List Op → Type 0
 FewTold ops = (n : Needs) (bytes words : ℕ) (m : Limits) → tellable (perform (byHistory n bytes words) ops 0 (begun m) .number) ≡ true
 
-pub few-told : (b : List ℕ) → FewTold (gsubOps b)
-few-told b n bytes words m = rw (plain-ops deepest b) at (tells-few n bytes words b plain m)
+pub few-told : (scope : Scope) (b : List ℕ) → FewTold (gsubOps scope b)
+few-told scope b n bytes words m = rw (plain-ops deepest b) at (tells-few n bytes words scope b plain m)
 
 -- ---- a read by these ops
 

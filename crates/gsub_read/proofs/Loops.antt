@@ -11,11 +11,15 @@ use Rattle.answer.specs.declared.ObjectId.{ObjectId}
 use Rattle.layout.specs.Sound.{sound}
 use Rattle.steps.specs.Runs.{Stores, stores}
 use Rattle.steps.specs.Mirrored.{byStores}
+use Rattle.gsub.specs.declared.Scope.{Scope}
+use Rattle.gsub.specs.declared.Kind.{Kind}
 use Rattle.gsub.specs.declared.Kind.the-variants.{Header}
 use Rattle.gsub.specs.declared.Mode.{Mode}
-use Rattle.gsub.specs.Ops.{begin, perform}
+use Rattle.gsub.specs.Ops.{Op, begin, perform}
 use Rattle.gsub.specs.Meaning.{deepest}
+use Rattle.gsub.specs.declared.Mode.the-variants.{Plain as plain}
 use Rattle.gsub.specs.Promote.{modeOps}
+use Rattle.gsub.proofs.Plain.{plain-ops}
 use Rattle.gsub_walk.specs.declared.walk.Walk.{Walk}
 use Rattle.gsub_walk.specs.declared.walk.Move.{Move}
 use Rattle.gsub_walk.specs.Rest.{restOf, Standing, MovesBy, begunAt}
@@ -23,6 +27,7 @@ use Rattle.gsub_walk.proofs.Moving.{begun-rest}
 use Rattle.gsub_read.specs.declared.perform.Performed.{Performed}
 use Rattle.gsub_read.specs.declared.perform.Performed.the-variants.{On, Bad, Refused}
 use Rattle.gsub_read.specs.Perform.{PerformedBy, opsOf, RanBy}
+use Rattle.gsub_read.specs.Read.{opsStep, readStep}
 use Rattle.gsub_read.proofs.perform.Performed.{the-type}
 use Rattle.gsub_read.proofs.Made.{goes-on, has-ended, all-made, refused-ends}
 
@@ -62,15 +67,20 @@ not-on (Refused why) h j e = let z : _≡_ {A = ℕ} 0 1 = cc in omega arith
 
 -- ---- the header's table opened, and walked through
 
-module _ (b : List ℕ) (m : Mode) {s t : Stores} {q : Performed} (h : PerformedBy (begin ∷ []) 0 s q t) where
-  pub not-begun : ((j : ObjectId) → q ≡ On j → ⊥) → RanBy (modeOps deepest b m Header 0) 0 s q t
+module _ (scope : Scope) (b : List ℕ) (m : Mode) {s t : Stores} {q : Performed} (h : PerformedBy (begin ∷ []) 0 s q t) where
+  pub not-begun : ((j : ObjectId) → q ≡ On j → ⊥) → RanBy (modeOps deepest b m (Header scope) 0) 0 s q t
   not-begun n = record {
-    ran = ap (λ ops. perform byStores ops 0 s) (begun-rest b m Header 0) ∙ h .made (restOf b (begunAt m Header 0)) ∙ refused-ends q (restOf b (begunAt m Header 0)) t n;
+    ran = ap (λ ops. perform byStores ops 0 s) (begun-rest b m (Header scope) 0) ∙ h .made (restOf b (begunAt m (Header scope) 0)) ∙ refused-ends q (restOf b (begunAt m (Header scope) 0)) t n;
     stays = h .stays;
   }
 
-  pub begun-ran : {j : ObjectId} {w : Walk} {r : Performed} {u : Stores} → q ≡ On j → w ≡ begunAt m Header 0 → RanBy (restOf b w) (j .0) t r u → RanBy (modeOps deepest b m Header 0) 0 s r u
+  pub begun-ran : {j : ObjectId} {w : Walk} {r : Performed} {u : Stores} → q ≡ On j → w ≡ begunAt m (Header scope) 0 → RanBy (restOf b w) (j .0) t r u → RanBy (modeOps deepest b m (Header scope) 0) 0 s r u
   begun-ran {j} e f x = record {
-    ran = ap (λ ops. perform byStores ops 0 s) (begun-rest b m Header 0) ∙ (rw e at (h .made (restOf b (begunAt m Header 0)))) ∙ (rw f at (x .ran));
+    ran = ap (λ ops. perform byStores ops 0 s) (begun-rest b m (Header scope) 0) ∙ (rw e at (h .made (restOf b (begunAt m (Header scope) 0)))) ∙ (rw f at (x .ran));
     stays = x .stays;
   }
+
+-- ---- a read in the mode of a table as it stands
+
+pub as-it-stands : (scope : Scope) (b : List ℕ) (objects links : ℕ) (s : Stores) → opsStep (modeOps deepest b plain (Header scope) 0) objects links s ≡ readStep scope b objects links s
+as-it-stands scope b objects links s = ap (λ (ops : Kind → ℕ → List Op). opsStep (ops (Header scope) 0) objects links s) (plain-ops deepest b)

@@ -1,4 +1,4 @@
--- docs/RULES.md, 11.1 and 11.6 to 11.8: a read as a function of its arguments and the two stores: a start, the table's ops, and a start anew where one of them is refused.
+-- docs/RULES.md, 11.1, 11.6 to 11.8 and 16.1: a read as a function of its arguments and the two stores: a start, the table's ops, and a start anew where one of them is refused.
 -- By the history alone: what it must tell, and the session calls that it stands for.
 use Prim.Native.Nat.{ℕ}
 use mathlib.Core.List.{List, [], _∷_}
@@ -17,6 +17,7 @@ use Rattle.steps.specs.Steps.{tallyIn}
 use Rattle.steps.specs.Runs.{StoreCall, Stores, stores, start, stepOn}
 use Rattle.steps.specs.Runs as calls
 use Rattle.steps.specs.Mirrored.{Step, byStores, byHistory}
+use Rattle.gsub.specs.declared.Scope.{Scope}
 use Rattle.gsub.specs.declared.Kind.the-variants.{Header}
 use Rattle.gsub.specs.Ops.{badTable, Op, begin, put, link, end, stop, Outcome, tableOps, perform}
 use Rattle.gsub.specs.Meaning.{deepest}
@@ -49,8 +50,8 @@ toldByRead (Refused why) = refusedRead (number why) 0
 abbrev pub toldOf : {S : Type 0} → (S → Tally) → Outcome S → ReadTold
 toldOf count o = pick (eqb (o .number) 0) (doneRead (o .id) (count (o .next))) (refusedRead (o .number) (o .place))
 
-abbrev pub gsubOps : List ℕ → List Op
-gsubOps b = tableOps deepest b Header 0
+abbrev pub gsubOps : Scope → List ℕ → List Op
+gsubOps scope b = tableOps deepest b (Header scope) 0
 
 -- ---- on the two stores
 
@@ -78,8 +79,8 @@ begunStep ops objects links n s =
 unfoldable pub opsStep : List Op → ℕ → ℕ → Stores → ReadLeft
 opsStep ops objects links s = let l = stepOn (start objects links) s in begunStep ops objects links (l .told .number) (l .stores)
 
-abbrev pub readStep : List ℕ → ℕ → ℕ → Stores → ReadLeft
-readStep b = opsStep (gsubOps b)
+abbrev pub readStep : Scope → List ℕ → ℕ → ℕ → Stores → ReadLeft
+readStep scope b = opsStep (gsubOps scope b)
 
 -- ---- a refusal handed on
 
@@ -124,11 +125,11 @@ module _ (n : Needs) (bytes words : ℕ) where
       start objects links ∷ pick (eqb (opsExpected ops objects links .number) 0) (callsIn (byHistory n bytes words) ops 0 (begun (limitsWith objects links))) []
 
   -- of a read
-  abbrev pub readExpected : List ℕ → ℕ → ℕ → ReadTold
-  readExpected b = opsExpected (gsubOps b)
+  abbrev pub readExpected : Scope → List ℕ → ℕ → ℕ → ReadTold
+  readExpected scope b = opsExpected (gsubOps scope b)
 
-  abbrev pub readCalls : List ℕ → ℕ → ℕ → List StoreCall
-  readCalls b = opsCalls (gsubOps b)
+  abbrev pub readCalls : Scope → List ℕ → ℕ → ℕ → List StoreCall
+  readCalls scope b = opsCalls (gsubOps scope b)
 
 -- the numbers that a read can tell: its start's, and those of its ops
 abbrev pub readTells : ℕ → Bool

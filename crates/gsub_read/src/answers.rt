@@ -10,7 +10,7 @@ ghost use Rattle.gsub_read.specs.Read.{handedOf, startedOf};
 // The number of a field that is not read.
 pub const BAD_TABLE: u64 = 15;
 
-// The root's id; the place of the field that no GSUB 1.0 table has there; a session refusal.
+// The root's id; the place of the field that no such table has there; a session refusal.
 pub enum ReadAnswer {
     Done(ObjectId, Tally),
     BadTable(usize),

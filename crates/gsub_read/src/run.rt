@@ -5,6 +5,7 @@ use crate::perform::perform;
 use answer::ObjectId;
 use gsub::Kind;
 use gsub::Mode;
+use gsub::Scope;
 use gsub_walk::walk::Walk;
 use gsub_walk::walk::begun;
 use gsub_walk::walk::step;
@@ -41,14 +42,20 @@ fn run(store: &mut [u8], records: &mut [u32], table: &[u8], w: Walk, first: Obje
 }
 
 // The whole table in a mode, into a session that is begun.
-pub fn read_begun(store: &mut [u8], records: &mut [u32], table: &[u8], mode: Mode) -> Performed
-    requires { ⌜ (sound (now store) (now records) ≡ true) × Fits mode Header ⌝ }
-    ensures { λ r. ⌜ RanBy (modeOps deepest (now (table .entry)) mode Header 0) 0 (stores (now (store .entry)) (now (records .entry))) r (stores (now (store .exit)) (now (records .exit))) ⌝ }
+pub fn read_begun(
+    store: &mut [u8],
+    records: &mut [u32],
+    table: &[u8],
+    scope: Scope,
+    mode: Mode,
+) -> Performed
+    requires { ⌜ (sound (now store) (now records) ≡ true) × Fits mode (Header scope) ⌝ }
+    ensures { λ r. ⌜ RanBy (modeOps deepest (now (table .entry)) mode (Header scope) 0) 0 (stores (now (store .entry)) (now (records .entry))) r (stores (now (store .exit)) (now (records .exit))) ⌝ }
 {
     let p = begin(store, records, ObjectId(0));
     let Performed::On(id) = p else {
         return p;
     };
-    let w = begun(mode, Kind::Header, 0);
+    let w = begun(mode, Kind::Header(scope), 0);
     run(store, records, table, w, id)
 }

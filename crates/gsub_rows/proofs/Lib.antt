@@ -1,4 +1,5 @@
-pub mod Numbers
+pub mod Bands
+pub mod Shaped
 pub mod Times
 pub mod Runs
 pub mod Laid

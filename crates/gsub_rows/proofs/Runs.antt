@@ -1,5 +1,5 @@
 -- Rows, and the fields of their runs.
-use mathlib.Core.Path.{_≡_, ap, _∙_}
+use mathlib.Core.Path.{_≡_, refl, ap, _∙_}
 use Prim.Native.Nat.{ℕ, zero, suc, _+_, _≤_, _<_}
 use mathlib.Core.List.{List, [], _∷_}
 use mathlib.Core.Bool.{true}
@@ -10,13 +10,9 @@ use lib.Dec.{eqb, leb}
 use lib.ListN.{length, getD, take, drop, length-drop, length-map, drop-of-length-le, List·getD-map}
 use lib.Seq.{getD-take, getD-drop, length-take-le, drop-cons}
 use Rattle.lists.proofs.Same.{and-left, and-right}
-use Rattle.gsub.specs.declared.Kind.{Kind}
-use Rattle.gsub.specs.Tables.{uint16, size, shape}
-use Rattle.gsub_rows.specs.Rows.{allFields, fieldOf, numberIn, sizeIn, fieldsIn, runOf, shapeOf, mostFields, mostRuns, mostSize, rightRun, rightRuns, RightRow, RowOf}
-
--- a row that was made for a kind
-pub row-of : {k j : Kind} {first : ℕ} {row : List (List ℕ)} → k ≡ j → ((second : ℕ) → shapeOf row ≡ shape j first second) → length row ≡ mostRuns → rightRuns row ≡ true → RowOf k first row
-row-of e s l r = rw e record { same = s; fits = record { runs = l; right = r } }
+use Rattle.gsub.specs.Tables.{uint16, size}
+use Rattle.gsub_rows.specs.Numbers.{fieldOf}
+use Rattle.gsub_rows.specs.Rows.{numberIn, sizeIn, fieldsIn, runOf, shapeOf, mostFields, mostRuns, mostSize, rightRun, rightRuns, RightRow}
 
 runs-at : (row : List (List ℕ)) (i : ℕ) → i < length row → rightRuns row ≡ true → rightRun (getD row i []) ≡ true
 unfolding rightRuns
@@ -25,6 +21,11 @@ runs-at (r ∷ rs) zero h t = and-left (rightRun r) (rightRuns rs) t
 runs-at (r ∷ rs) (suc i) h t = runs-at rs i (omega arith) (and-right (rightRun r) (rightRuns rs) t)
 
 -- ---- a run
+
+getD-any : (l : List ℕ) (i d e : ℕ) → i < length l → getD l i d ≡ getD l i e
+getD-any [] i d e h = absurd (omega arith)
+getD-any (x ∷ l) zero d e h = refl
+getD-any (x ∷ l) (suc i) d e h = getD-any l i d e (omega arith)
 
 pub record RightRun (r : List ℕ) : Type 0 where
   pub long : length r ≡ 3 + mostFields
@@ -53,11 +54,13 @@ module _ {r : List ℕ} (g : RightRun r) where
       length-map (take (numberIn r) (drop 3 r)) fieldOf
       ∙ length-take-le (numberIn r) (drop 3 r) (omega (arith, length-drop 3 r, g .long, g .few))
 
+  -- past a run's fields stands UINT16, which is 16
   pub field-at : (j : ℕ) → j < numberIn r → getD (fieldsIn r) j uint16 ≡ fieldOf (getD r (3 + j) 0)
-  unfolding allFields
+  unfolding fieldOf
   field-at j l =
       let n = numberIn r in
-      List·getD-map fieldOf (take n (drop 3 r)) j 0 ∙ ap (λ x. fieldOf x) (getD-take n (drop 3 r) j 0 l ∙ getD-drop 3 r j 0)
+      List·getD-map fieldOf (take n (drop 3 r)) j 16
+      ∙ ap (λ x. fieldOf x) (getD-take n (drop 3 r) j 16 l ∙ getD-drop 3 r j 16 ∙ getD-any r (3 + j) 16 0 (omega (arith, g .long, g .few)))
 
 -- ---- the runs of a row, from one on
 

@@ -7,9 +7,9 @@ use lib.Dec.{eqb}
 use Rattle.lists.specs.Lists.{pick}
 use Rattle.big_endian.specs.BigEndian.{capacity}
 use Rattle.gsub.specs.Tables.{wordAt, often}
-use Rattle.gsub_rows.specs.declared.rows.Times.{Times}
-use Rattle.gsub_rows.specs.declared.rows.Times.the-variants.{Once, Count, Before, Marked}
-use Rattle.gsub_rows.specs.Rows.{asTimes}
+use Rattle.gsub_rows.specs.declared.numbers.Times.{Times}
+use Rattle.gsub_rows.specs.declared.numbers.Times.the-variants.{Once, Count, Before, Marked}
+use Rattle.gsub_rows.specs.Numbers.{asTimes}
 
 bit : (x : ℕ) → x < 2 → x ≡ pick (eqb x 1) 1 0
 bit zero h = refl

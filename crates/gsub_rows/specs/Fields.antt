@@ -3,6 +3,8 @@ use mathlib.Core.Path.{_≡_}
 use Prim.Native.Nat.{ℕ, _+_, _≤_, _<_, _^_}
 use mathlib.Core.List.{List}
 use lib.ListN.{length, getD}
+use Rattle.big_endian.specs.BigEndian.{capacity}
+use Rattle.gsub.specs.declared.Scope.{Scope}
 use Rattle.gsub.specs.declared.Kind.{Kind}
 use Rattle.gsub.specs.declared.Kind.the-variants.{Lookup}
 use Rattle.gsub.specs.declared.Mode.{Mode}
@@ -29,8 +31,13 @@ Found fs i (Some f) = (i < length fs) × (getD fs i uint16 ≡ f) × Narrow f
 Found fs i None = length fs ≤ i
 
 -- only a Lookup is promoted
+pub record IsLookup (k : Kind) : Type 0 where
+  pub scope : Scope
+  pub same : k ≡ Lookup scope
+
+-- a new Extension's type is a number of two bytes
 unfoldable pub Fits : Mode → Kind → Type 0
 Fits Mode.Plain k = Unit {0}
 Fits (Mode.Last n) k = Unit {0}
-Fits Mode.Promoted k = k ≡ Lookup
-Fits Mode.New k = Unit {0}
+Fits Mode.Promoted k = IsLookup k
+Fits (Mode.New type) k = type < capacity 2

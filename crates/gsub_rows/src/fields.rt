@@ -1,14 +1,16 @@
 // The fields of a table, by the numbers in it.
-use crate::rows::FIELDS;
-use crate::rows::FIRST;
-use crate::rows::MOST_RUNS;
-use crate::rows::Row;
-use crate::rows::SIZE;
-use crate::rows::TIMES;
-use crate::rows::Times;
-use crate::rows::field_of;
+use crate::numbers::FIELDS;
+use crate::numbers::FIRST;
+use crate::numbers::MOST_RUNS;
+use crate::numbers::Row;
+use crate::numbers::SIZE;
+use crate::numbers::TIMES;
+use crate::numbers::Times;
+use crate::numbers::field_of;
+use crate::numbers::times_of;
+use crate::numbers::wide;
 use crate::rows::row_of;
-use crate::rows::times_of;
+use gsub::EXTENSION_SIZE;
 use gsub::Field;
 use gsub::Kind;
 use gsub::Mode;
@@ -18,12 +20,17 @@ ghost use mathlib.Core.Path.{_≡_};
 ghost use Prim.Native.Nat.{_+_, _-_, _<_, _≤_, _^_};
 ghost use Rattle.big_endian.specs.BigEndian.{capacity};
 ghost use Rattle.gsub.specs.Tables.{wordAt, fieldsAt, often as oftenOf, laid};
+ghost use Rattle.gsub.specs.declared.Mode.the-variants.{Promoted};
 ghost use Rattle.gsub.specs.Promote.{bytesIn, placeIn};
-ghost use Rattle.gsub_rows.specs.Fields.{Found, Fits, farthest};
-ghost use Rattle.gsub_rows.specs.Rows.{asTimes, shapeOf, RightRow};
+ghost use Rattle.gsub_rows.specs.Fields.{Found, IsLookup, Fits, farthest};
+ghost use Rattle.gsub_rows.specs.Numbers.{asTimes};
+ghost use Rattle.gsub_rows.specs.Rows.{shapeOf, RightRow};
 
 // The bytes of a count.
 const COUNT: usize = 2;
+
+// Where a table's second number stands.
+const SECOND: usize = 2;
 
 // Where lookupFlag stands in a Lookup, and its bit USE_MARK_FILTERING_SET.
 const LOOKUP_FLAG: usize = 2;
@@ -46,12 +53,6 @@ pub fn less(a: usize, b: usize) -> usize
         return 0;
     }
     a - b
-}
-
-fn wide(x: u16) -> usize
-    ensures { λ r. ⌜ (r ≡ x) × (r < capacity 2) ⌝ }
-{
-    x as usize
 }
 
 // How often the fields of a run stand at `at` of the table at `place`.
@@ -77,7 +78,7 @@ fn in_runs(table: &[u8], place: usize, row: Row, index: usize) -> Next
     let mut left = index;
     while run < MOST_RUNS {
         let r = row[run];
-        let fields = r[FIELDS];
+        let fields = wide(r[FIELDS]);
         if fields == 0 {
             return Next::None;
         }
@@ -86,7 +87,7 @@ fn in_runs(table: &[u8], place: usize, row: Row, index: usize) -> Next
             return Next::Some(field_of(r[FIRST + left % fields]));
         }
         left -= n * fields;
-        at += n * r[SIZE];
+        at += n * wide(r[SIZE]);
         run += 1;
     }
     Next::None
@@ -97,7 +98,31 @@ fn next_field(table: &[u8], kind: Kind, place: usize, index: usize) -> Next
     requires { ⌜ place ≤ farthest ⌝ }
     ensures { λ r. ⌜ Found (fieldsAt (now (table .entry)) kind place) index r ⌝ }
 {
-    let row = row_of(kind, word_at(table, place));
+    let row = row_of(kind, word_at(table, place), word_at(table, place + SECOND));
+    in_runs(table, place, row, index)
+}
+
+// The lookupType of a promoted Lookup at `place`: as the bytes that it is read from have it, which are none past the slice's end.
+fn promoted_type(table: &[u8], place: usize) -> usize
+    requires { ⌜ place ≤ farthest ⌝ }
+    ensures { λ r. ⌜ r ≡ wordAt (bytesIn (now (table .entry)) Promoted place) place ⌝ }
+{
+    if table.len() < place + SECOND {
+        return 0;
+    }
+    EXTENSION_TYPE
+}
+
+// Of a promoted Lookup.
+fn next_promoted(table: &[u8], kind: Kind, place: usize, index: usize) -> Next
+    requires { ⌜ (place ≤ farthest) × IsLookup kind ⌝ }
+    ensures { λ r. ⌜ Found (fieldsAt (bytesIn (now (table .entry)) Promoted place) kind place) index r ⌝ }
+{
+    let row = row_of(
+        kind,
+        promoted_type(table, place),
+        word_at(table, place + SECOND),
+    );
     in_runs(table, place, row, index)
 }
 
@@ -109,7 +134,7 @@ pub fn next_in(table: &[u8], mode: Mode, kind: Kind, place: usize, index: usize)
     match mode {
         Mode::Plain => next_field(table, kind, place, index),
         Mode::Last(_) => next_field(table, kind, place, index),
-        Mode::Promoted => in_runs(table, place, row_of(kind, EXTENSION_TYPE), index),
-        Mode::New => next_field(&NEW, kind, 0, index),
+        Mode::Promoted => next_promoted(table, kind, place, index),
+        Mode::New(number) => next_field(&NEW, kind, EXTENSION_SIZE * number, index),
     }
 }

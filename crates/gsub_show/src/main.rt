@@ -1,5 +1,5 @@
 // Shows the GSUB table of standard input: its scripts, features and lookups, how many lookups are promoted, what stays of it where equal objects are kept
-// once, and that the packed table substitutes the same.
+// once, and that the packed table, read again, packs to the same bytes and substitutes the same.
 mod names;
 mod substitutes;
 mod visits;
@@ -42,22 +42,45 @@ fn kept(table: &[u8], promoted: usize, held: Tally) {
 fn compare(table: &[u8], packed: &[u8]) {
     let n = differing(table, packed);
     if n == 0 {
-        text(b"read again: every lookup substitutes the same for every glyph\n");
+        text(b"read again: every single substitution is the same for every glyph\n");
         return;
     }
     value(b"read again: ", n);
-    text(b" substitutes differ\n");
+    text(b" single substitutes differ\n");
+}
+
+// Whether the first bytes of `out`, so many, are these.
+fn same(out: &[u8], length: usize, packed: &[u8]) -> bool {
+    if length != packed.len() {
+        return false;
+    }
+    if out.len() < length {
+        return false;
+    }
+    let mut i = 0;
+    while i < packed.len() {
+        if out[i] != packed[i] {
+            return false;
+        }
+        i += 1;
+    }
+    true
 }
 
 // In a second session.
 fn read_again(table: &[u8], packed: &[u8]) {
     let mut out: [u8; LONGEST] = [0; LONGEST];
     let told = report_gsub::repack(packed, &mut out);
-    let PromoteAnswer::Done(_, _, _, _) = told else {
+    let PromoteAnswer::Done(_, _, length, _) = told else {
         text(b"read again: ");
         tell(OUTPUT, told);
         return;
     };
+    if same(&out, length, packed) {
+        text(b"packed again: the same bytes\n");
+    } else {
+        text(b"packed again: OTHER BYTES\n");
+    }
     compare(table, packed);
 }
 

@@ -1,6 +1,7 @@
 // How many tables a read visits and how many bytes it puts, each as often as an offset leads there.
 use gsub::Kind;
 use gsub::Mode;
+use gsub::Scope;
 use gsub_walk::walk::Move;
 use gsub_walk::walk::begun;
 use gsub_walk::walk::step;
@@ -59,7 +60,7 @@ fn with_move(v: Visited, m: Move) -> Counted
 }
 
 pub fn visits(table: &[u8]) -> Visited {
-    let mut walk = begun(Mode::Plain, Kind::Header, 0);
+    let mut walk = begun(Mode::Plain, Kind::Header(Scope::Whole), 0);
     let mut v = Visited {
         objects: 0,
         bytes: 0,

@@ -1,1 +1,2 @@
 mod Scans
+mod Settling

@@ -5,7 +5,7 @@ use mathlib.Core.Bool.{_&&_}
 use native.Mathlib.Omega.{arith}
 use lib.Dec.{eqb, leb}
 use Rattle.lists.specs.Lists.{pick}
-use Rattle.gsub.specs.Substitute.{Index, none, at, inGlyphs, inRanges, coverageIndex, settled, subtable, bySubtables}
+use Rattle.gsub.specs.Substitute.{none, at, inGlyphs, inRanges, coverageIndex, settled, subtable, typeOf, bySubtables}
 
 module _ {T : Type 0} (word : T → ℕ → ℕ) (child : T → ℕ → T) (t : T) (g i n : ℕ) where
   -- all are passed
@@ -39,7 +39,7 @@ module _ {T : Type 0} (word : T → ℕ → ℕ) (child : T → ℕ → T) (t : 
     unfolding inRanges
     ranges-next = rw one-left
 
-    pub subtables-next : (far : T → ℕ → T) {s c : T} {x : Index} → s ≡ subtable word child far t i → c ≡ child s 2 → coverageIndex word child c g ≡ x
-        → bySubtables word child far t g i (n - i) ≡ settled word child s g x (bySubtables word child far t g (i + 1) (n - (i + 1)))
+    pub subtables-next : (far : T → ℕ → T) → let s = subtable word child far t i in let later = bySubtables word child far t g (i + 1) (n - (i + 1)) in
+        bySubtables word child far t g i (n - i) ≡ pick (eqb (typeOf word child t i) 1) (settled word child s g (coverageIndex word child (child s 2) g) later) later
     unfolding bySubtables
-    subtables-next far e f h = rw (one-left, ← e, ← f, h)
+    subtables-next far = rw one-left

@@ -3,8 +3,8 @@ use gsub::word_at;
 ghost use mathlib.Core.Path.{_≡_};
 ghost use Prim.Native.Nat.{_+_, _*_, _≤_, _<_};
 ghost use Rattle.big_endian.specs.BigEndian.{capacity};
-ghost use Rattle.gsub.specs.Substitute.{inGlyphs, inRanges, coverageIndex, single as singleIn, subtable, bySubtables, wordFrom, childFrom, farFrom, substituteFrom};
-ghost use Rattle.gsub_substitute.specs.Found.{indexOf, farthest};
+ghost use Rattle.gsub.specs.Substitute.{inGlyphs, inRanges, coverageIndex, single as singleIn, subtable, typeOf, bySubtables, wordFrom, childFrom, farFrom, substituteFrom};
+ghost use Rattle.gsub_substitute.specs.Found.{indexOf, farthest, BySubtable};
 
 // How many numbers a glyph's 16 bits hold.
 const GLYPHS: usize = 1 << 16;
@@ -12,7 +12,12 @@ const GLYPHS: usize = 1 << 16;
 // What the first half of a 32-bit number counts.
 const HIGH: usize = 1 << 16;
 
-// A glyph's coverage index.
+// The lookup types of single substitution and of an Extension.
+const SINGLE: usize = 1;
+
+const EXTENSION: usize = 7;
+
+// A glyph's coverage index, or its substitute, where there is one.
 enum Index {
     None,
     At(usize),
@@ -94,19 +99,49 @@ fn single(table: &[u8], subtable: usize, glyph: usize, index: usize) -> usize
     word_at(table, subtable + (6 + 2 * index))
 }
 
-// The subtable of number i of a Lookup, behind an Extension where its type is not 1.
+// The subtable of number i of a Lookup, behind an Extension where its type is 7.
 fn subtable_of(table: &[u8], lookup: usize, i: usize) -> usize
     requires { ⌜ (lookup ≤ 2 * capacity 2) × (i < capacity 2) ⌝ }
     ensures { λ r. ⌜ (r ≡ subtable (wordFrom (now (table .entry))) (childFrom (now (table .entry))) (farFrom (now (table .entry))) lookup i) × (r ≤ farthest) ⌝ }
 {
     let place = child(table, lookup, 6 + 2 * i);
-    if word_at(table, lookup) == 1 {
-        return place;
+    if word_at(table, lookup) == EXTENSION {
+        return far_child(table, place, 4);
     }
-    far_child(table, place, 4)
+    place
 }
 
-// By the first subtable of a Lookup that covers the glyph.
+// Its type, which is the Extension's there.
+fn type_of(table: &[u8], lookup: usize, i: usize) -> usize
+    requires { ⌜ (lookup ≤ 2 * capacity 2) × (i < capacity 2) ⌝ }
+    ensures { λ r. ⌜ r ≡ typeOf (wordFrom (now (table .entry))) (childFrom (now (table .entry))) lookup i ⌝ }
+{
+    let place = child(table, lookup, 6 + 2 * i);
+    let of = word_at(table, lookup);
+    if of == EXTENSION {
+        return word_at(table, place + 2);
+    }
+    of
+}
+
+// What the subtable of number i makes of the glyph, if it is of type 1 and covers it.
+fn by_subtable(table: &[u8], lookup: usize, i: usize, glyph: usize) -> Index
+    requires { ⌜ (lookup ≤ 2 * capacity 2) × (i < capacity 2) × (glyph < capacity 2) ⌝ }
+    ensures { λ r. ⌜ BySubtable (now (table .entry)) lookup i glyph r ⌝ }
+{
+    if type_of(table, lookup, i) != SINGLE {
+        return Index::None;
+    }
+    let subtable = subtable_of(table, lookup, i);
+    let coverage = child(table, subtable, 2);
+    let found = coverage_index(table, coverage, glyph);
+    match found {
+        Index::At(index) => Index::At(single(table, subtable, glyph, index)),
+        Index::None => Index::None,
+    }
+}
+
+// By the first subtable of a Lookup that is of type 1 and covers the glyph.
 fn by_subtables(table: &[u8], lookup: usize, glyph: usize) -> usize
     requires { ⌜ (lookup ≤ 2 * capacity 2) × (glyph < capacity 2) ⌝ }
     ensures { λ r. ⌜ (r ≡ bySubtables (wordFrom (now (table .entry))) (childFrom (now (table .entry))) (farFrom (now (table .entry))) lookup glyph 0 (wordFrom (now (table .entry)) lookup 4)) × (r < capacity 2) ⌝ }
@@ -114,11 +149,9 @@ fn by_subtables(table: &[u8], lookup: usize, glyph: usize) -> usize
     let count = word_at(table, lookup + 4);
     let mut i = 0;
     while i < count {
-        let subtable = subtable_of(table, lookup, i);
-        let coverage = child(table, subtable, 2);
-        let found = coverage_index(table, coverage, glyph);
-        if let Index::At(index) = found {
-            return single(table, subtable, glyph, index);
+        let made = by_subtable(table, lookup, i, glyph);
+        if let Index::At(substitute) = made {
+            return substitute;
         }
         i += 1;
     }

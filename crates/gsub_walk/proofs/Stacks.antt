@@ -82,10 +82,11 @@ module _ (w : Walk) (s : Standing w) (l : w .depth < deepest) (f : Frame) where
   entered-stands h = record { deep = omega arith; sized = length-set (w .frames) (w .depth) f ∙ s .sized; frames-ok = rw entered-is (h, s .frames-ok) }
 
 pub frame-ok : (m : Mode) (k : Kind) (p : ℕ) → Fits m k → p ≤ farthest → FrameOk (frameOf m k p)
-frame-ok m k p t h = record { fits = t; begins = h; near = go m; few = omega arith; first = λ e. refl; narrow = omega arith }
+unfolding Fits
+frame-ok m k p t h = record { fits = t; begins = h; near = go m t; few = omega arith; first = λ e. refl; narrow = omega arith }
   where
-    go : (m : Mode) → placeIn m p + 0 ≤ farthest
-    go Plain = omega arith
-    go (Last n) = omega arith
-    go Promoted = omega arith
-    go New = omega arith
+    go : (m : Mode) → Fits m k → placeIn m p + 0 ≤ farthest
+    go Plain t = omega arith
+    go (Last n) t = omega arith
+    go Promoted t = omega arith
+    go (New type) t = omega arith

@@ -5,13 +5,14 @@ use mathlib.Core.List.{List, [], _∷_, _++_}
 use mathlib.Core.Bool.{Bool, true, false}
 use lib.ListN.{length, getD, drop, set, replicate}
 use Rattle.lists.specs.Lists.{part}
+use Rattle.gsub.specs.declared.Scope.the-variants.{Single}
 use Rattle.gsub.specs.declared.Kind.{Kind}
 use Rattle.gsub.specs.declared.Kind.the-variants.{Header}
 use Rattle.gsub.specs.declared.Field.{Field}
 use Rattle.gsub.specs.Tables.{fieldsAt}
 use Rattle.gsub.specs.declared.Mode.{Mode}
 use Rattle.gsub.specs.declared.Mode.the-variants.{Plain as plain}
-use Rattle.gsub.specs.Ops.{Op, begin, put, link, end, stop, fieldsOps}
+use Rattle.gsub.specs.Ops.{byRule, featureAt, Op, begin, put, link, end, stop, fieldsOps}
 use Rattle.gsub.specs.Promote.{newBytes, bytesIn, placeIn, childMode, childPlace, modeOps}
 use Rattle.gsub.specs.Meaning.{deepest}
 use Rattle.gsub_rows.specs.declared.fields.Next.the-variants.{Some}
@@ -25,7 +26,7 @@ use Rattle.gsub_walk.specs.declared.walk.Move.the-variants as Move
 -- ---- the open tables, the innermost first
 
 abbrev pub noFrame : Frame
-noFrame = record { mode = plain; kind = Header; place = 0; index = 0; at = 0; width = 0 }
+noFrame = record { mode = plain; kind = Header Single; place = 0; index = 0; at = 0; width = 0 }
 
 unfoldable pub stack : List Frame → ℕ → List Frame
 stack l zero = []
@@ -148,3 +149,4 @@ pub record AsIs (b : List ℕ) (f : Frame) (g : Field) : Type 0 where
   pub long-same : length (bytesOf b f) ≡ length b
   pub bytes-same : part (f .place + f .at) (f .place + f .at + g .width) (bytesOf b f) ≡ part (f .place + f .at) (f .place + f .at + g .width) b
   pub child-same : (q : ℕ) → childPlace (f .mode) (f .place) q ≡ q
+  pub rule-same : (v : ℕ) → byRule (g .rule) (featureAt (bytesOf b f) (placeOf f + f .at)) v ≡ byRule (g .rule) (featureAt b (f .place + f .at)) v

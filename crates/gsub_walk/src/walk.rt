@@ -3,6 +3,7 @@ use crate::judge::judge;
 use crate::judge::lies_in;
 use crate::modes::child_mode;
 use gsub::Act;
+use gsub::EXTENSION_SIZE;
 use gsub::Field;
 use gsub::Kind;
 use gsub::Mode;
@@ -19,11 +20,13 @@ ghost use Rattle.gsub.specs.Meaning.{deepest};
 ghost use Rattle.gsub_rows.specs.Fields.{mostWidth, Narrow};
 ghost use Rattle.gsub_walk.specs.Rest.{Standing, FrameOk, noFrame, advanced, entered, linked, left, Moves, NextIs, AsIs, begunAt};
 
-// Header, LookupList, Lookup, Extension, SingleSubst, Coverage: none lies deeper.
-const DEEPEST: usize = 6;
+// Header, LookupList, Lookup, Extension, a subtable, a set, a rule: none lies deeper.
+const DEEPEST: usize = 7;
 
-// Where NEW has the lookupType of a promoted Lookup.
-const TYPE: usize = 8;
+// The lookupType of a promoted Lookup, and where NEW has it: an Extension's type stands behind its format.
+const EXTENSION: usize = 7;
+
+const TYPE: usize = EXTENSION_SIZE * EXTENSION + 2;
 
 // A table: how it is read, its kind and place, the number of its next field, where that lies in it, and the width of the field before.
 pub struct Frame {
@@ -201,21 +204,21 @@ fn step_type(table: &[u8], w: Walk, f: Frame, g: Field) -> Moved
     }
 }
 
-// Where f is a new Extension, whatever the table is.
-fn step_new(w: Walk, f: Frame, g: Field) -> Moved
-    requires { ⌜ Standing w × (0 < w .depth) × FrameOk f × Narrow g × (f .mode ≡ New) ⌝ }
+// Where f is a new Extension for lookups of this type, whatever the table is.
+fn step_new(w: Walk, f: Frame, g: Field, number: usize) -> Moved
+    requires { ⌜ Standing w × (0 < w .depth) × FrameOk f × Narrow g × (f .mode ≡ New number) ⌝ }
     ensures { λ r. ⌜ ((b : List ℕ) → NextIs b w f g → Moves b w r) ⌝ }
 {
     let width = g.width;
-    let at = f.at;
-    let act = judge(&NEW, at, g);
+    let here = EXTENSION_SIZE * number + f.at;
+    let act = judge(&NEW, here, g);
     match act {
         Act::Keep => Moved {
-            made: Move::New(at, width),
+            made: Move::New(here, width),
             walk: advance(w, f, width),
         },
         Act::Refuse => Moved {
-            made: Move::Stop(f.at),
+            made: Move::Stop(here),
             walk: w,
         },
         Act::Follow(kind) => {
@@ -247,7 +250,7 @@ fn step_in(table: &[u8], w: Walk, f: Frame, g: Field) -> Moved
         } else {
             step_field(table, w, f, g)
         },
-        Mode::New => step_new(w, f, g),
+        Mode::New(number) => step_new(w, f, g, number),
     }
 }
 

@@ -3,17 +3,17 @@
 // No function asks anything of its caller. What can't be written is lost, and nothing is told of it.
 use answer::number_of;
 use gsub_promote::PromoteAnswer;
-use gsub_promote::promote_gsub;
+use gsub_promote::promote_gsub_whole;
 use layout::words::LINKS_AT;
 use model_orders::LINK_WORDS;
 
 // How long a table may be, and its packed one: some lookups have to be promoted only where a table is longer than an offset of two bytes can count.
 pub const LONGEST: usize = 1 << 18;
 
-// The session's limits.
-const OBJECTS: usize = 2048;
+// The session's limits: enough for any table of that length that was met.
+const OBJECTS: usize = 1 << 14;
 
-const LINKS: usize = 8192;
+const LINKS: usize = 1 << 15;
 
 const RECORDS: usize = LINKS_AT + OBJECTS * 2 + LINKS * LINK_WORDS;
 
@@ -31,7 +31,7 @@ pub fn repack(table: &[u8], out: &mut [u8]) -> PromoteAnswer {
     let mut store: [u8; LONGEST] = [0; LONGEST];
     let mut records: [u32; RECORDS] = [0; RECORDS];
     let mut work: [u64; WORK] = [0; WORK];
-    promote_gsub(
+    promote_gsub_whole(
         &mut store,
         &mut records,
         OBJECTS as u32,

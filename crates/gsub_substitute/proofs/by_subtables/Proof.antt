@@ -1,12 +1,13 @@
--- The subtables passed do not cover the glyph.
-use mathlib.Core.Path.{_≡_, sym, ap, _∙_}
+-- The subtables passed do not settle the glyph.
+use mathlib.Core.Path.{_≡_, sym, _∙_}
 use Prim.Native.Nat.{_-_, _≤_}
 use native.Mathlib.Omega.{arith}
 use borrow.Author.Needs.{needs}
 use denote.Ref.{now}
 use Rattle.gsub.specs.Substitute.{bySubtables, wordFrom, childFrom, farFrom}
-use Rattle.gsub_substitute.specs.Found.{indexOf}
+use Rattle.gsub_substitute.specs.Found.{Small}
 use Rattle.gsub_substitute.proofs.Scans.{subtables-end, subtables-next}
+use Rattle.gsub_substitute.proofs.Settling.{settles, passes}
 use Rattle.gsub_substitute.proofs.by_subtables.Statement.{statement}
 use Rattle.gsub_substitute.proofs.by_subtables.Tie as tie
 
@@ -29,31 +30,20 @@ loop-holds c =
     let n : c .word-at .result - 0 ≡ wordFrom (now (c .before .before .args .table)) (c .before .before .args .lookup) 4 = omega arith in
     (omega arith, rw n)
 
-subtable-of-requires : tie.Need-subtable-of-requires Inv-loop μ-loop
-subtable-of-requires c κs = search needs
+by-subtable-requires : tie.Need-by-subtable-requires Inv-loop μ-loop
+by-subtable-requires c κs = search needs
 
-child-requires : tie.Need-child-requires Inv-loop μ-loop
-child-requires c κs = search needs
-
-coverage-index-requires : tie.Need-coverage-index-requires Inv-loop μ-loop
-coverage-index-requires c κs = search needs
-
-enum-known-found : tie.Need-enum-known-found Inv-loop μ-loop
-enum-known-found c = search needs
-
-single-requires : tie.Need-single-requires Inv-loop μ-loop
-single-requires c κs = search needs
+enum-known-made : tie.Need-enum-known-made Inv-loop μ-loop
+enum-known-made c = search needs
 
 returns : tie.Need-returns Inv-loop μ-loop
+unfolding Small
 returns c =
-    let found = c .before .before .before .before in
-    let turn = found .before .before .before in (
-      sym
-          (turn .before .loop .inv .1
-          ∙ subtables-next _ _ _ _ _ _ (turn .loop-test .taken) _ (found .before .before .subtable-of .ensures .0) (found .before .child .ensures .0)
-          (sym (found .coverage-index .ensures) ∙ ap indexOf (c .before .before .found .given .1))
-          ∙ sym (c .single .ensures .0)),
-      omega arith,
+    let turn = c .before .before .before in
+    let made = turn .by-subtable .ensures in
+    let is = c .before .made .given .1 in (
+      sym (turn .before .before .loop .inv .1 ∙ subtables-next _ _ _ _ _ _ (turn .before .loop-test .taken) _ ∙ settles _ _ _ _ made is _),
+      rw is at (made .small),
     )
 
 enum-told : tie.Need-enum-told Inv-loop μ-loop
@@ -67,12 +57,9 @@ loop-less c = search needs
 
 loop-again : tie.Need-loop-again Inv-loop μ-loop
 loop-again c =
-    let found = c .before .before in
-    let turn = found .before .before .before in (
+    let turn = c .before .before in (
       omega arith,
-      turn .before .loop .inv .1
-          ∙ subtables-next _ _ _ _ _ _ (turn .loop-test .taken) _ (found .before .before .subtable-of .ensures .0) (found .before .child .ensures .0)
-          (sym (found .coverage-index .ensures) ∙ ap indexOf (c .enum-told .given .1)),
+      turn .before .before .loop .inv .1 ∙ subtables-next _ _ _ _ _ _ (turn .before .loop-test .taken) _ ∙ passes _ _ _ _ (turn .by-subtable .ensures) (c .enum-told .given .1) _,
     )
 
 returns-2 : tie.Need-returns-2 Inv-loop μ-loop
@@ -87,11 +74,8 @@ by-subtables-spec =
     add-word-at
     word-at-requires
     loop-holds
-    subtable-of-requires
-    child-requires
-    coverage-index-requires
-    enum-known-found
-    single-requires
+    by-subtable-requires
+    enum-known-made
     returns
     enum-told
     add-i

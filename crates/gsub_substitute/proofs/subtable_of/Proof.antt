@@ -20,22 +20,22 @@ child-requires c κs = search needs
 word-at-requires : tie.Need-word-at-requires
 word-at-requires c κs = search needs
 
+far-child-requires : tie.Need-far-child-requires
+far-child-requires c κs = search needs
+
 returns : tie.Need-returns
 unfolding subtable
 returns c =
-    let place = c .before .before .child in
-    let args = c .before .before .before .before .args in
-    (place .ensures .0 ∙ sym (rw (add-zero (args .lookup), ← c .before .word-at .ensures .0, eq-eqb _ _ (c .if1 .taken))), omega arith)
-
-far-child-requires : tie.Need-far-child-requires
-far-child-requires c κs = search needs
+    let place = c .before .before .before .child in
+    let args = c .before .before .before .before .before .args in
+    (c .far-child .ensures .0 ∙ sym (rw (add-zero (args .lookup), ← place .ensures .0, ← c .before .before .word-at .ensures .0, eq-eqb _ _ (c .before .if1 .taken))), omega arith)
 
 returns-2 : tie.Need-returns-2
 unfolding subtable
 returns-2 c =
-    let place = c .before .before .before .child in
-    let args = c .before .before .before .before .before .args in
-    (c .far-child .ensures .0 ∙ sym (rw (add-zero (args .lookup), ← place .ensures .0, ← c .before .before .word-at .ensures .0, ne-eqb _ _ (c .before .if1 .left))), omega arith)
+    let place = c .before .before .child in
+    let args = c .before .before .before .before .args in
+    (place .ensures .0 ∙ sym (rw (add-zero (args .lookup), ← c .before .word-at .ensures .0, ne-eqb _ _ (c .if1 .left))), omega arith)
 
 pub subtable-of-spec : {M : Type 1} → statement M
 subtable-of-spec =
@@ -45,6 +45,6 @@ subtable-of-spec =
     add-child
     child-requires
     word-at-requires
-    returns
     far-child-requires
+    returns
     returns-2)

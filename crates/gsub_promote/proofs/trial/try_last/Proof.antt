@@ -29,13 +29,13 @@ returns c =
     let at-match = c .before in
     let read = c .before .before .before .before .before .before .read-in in
     let a = c .before .before .before .before .before .before .before .before .before .before .before .before .before .before .args in
-    tried-unread (now (a .table)) _ _ _ (lent (stores (now (a .store)) (now (a .records))) (now (a .out)) (now (a .work))) (read .result) (read .ensures) (not-done (read .result) (at-match .match .keys2)) (c .unread .ensures)
+    tried-unread _ (now (a .table)) _ _ _ (lent (stores (now (a .store)) (now (a .records))) (now (a .out)) (now (a .work))) (read .result) (read .ensures) (not-done (read .result) (at-match .match .keys2)) (c .unread .ensures)
 
 pack-sound-requires : tie.Need-pack-sound-requires
 pack-sound-requires c κs =
     let read = c .before .before .before .before .before .before .before .before .before .before .before .read-in in
     let a = c .before .before .before .before .before .before .before .before .before .before .before .before .before .before .before .before .before .before .before .args in
-    read-sound (now (a .table)) _ _ _ (lent (stores (now (a .store)) (now (a .records))) (now (a .out)) (now (a .work))) (read .result) (read .ensures) _ _ (c .before .before .before .before .before .a .given .1)
+    read-sound _ (now (a .table)) _ _ _ (lent (stores (now (a .store)) (now (a .records))) (now (a .out)) (now (a .work))) (read .result) (read .ensures) _ _ (c .before .before .before .before .before .a .given .1)
 
 packed-requires : tie.Need-packed-requires
 packed-requires c κs = search needs
@@ -56,7 +56,7 @@ returns-2 : tie.Need-returns-2
 returns-2 c =
     let read = c .before .before .before .before .before .before .before .before .before .before .before .before .before .before .before .before .before .read-in in
     let a = c .before .before .before .before .before .before .before .before .before .before .before .before .before .before .before .before .before .before .before .before .before .before .before .before .before .args in
-    tried-packed (now (a .table)) _ _ _ (lent (stores (now (a .store)) (now (a .records))) (now (a .out)) (now (a .work))) (read .result) (read .ensures) _ _ (c .before .before .before .before .before .before .before .before .before .before .before .a .given .1) (c .before .before .before .before .before .pack-sound .ensures) (c .packed .ensures)
+    tried-packed _ (now (a .table)) _ _ _ (lent (stores (now (a .store)) (now (a .records))) (now (a .out)) (now (a .work))) (read .result) (read .ensures) _ _ (c .before .before .before .before .before .before .before .before .before .before .before .a .given .1) (c .before .before .before .before .before .pack-sound .ensures) (c .packed .ensures)
 
 pub try-last-spec : {M : Type 1} → statement M
 try-last-spec =

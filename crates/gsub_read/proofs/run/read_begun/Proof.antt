@@ -22,13 +22,13 @@ same-length-2 c = search needs
 returns : tie.Need-returns
 returns c =
     let begun = c .before .before .before .begin in
-    not-begun _ _ (begun .ensures) (not-on (begun .result) (c .match .keys2))
+    not-begun _ _ _ (begun .ensures) (not-on (begun .result) (c .match .keys2))
 
 begun-requires : tie.Need-begun-requires
 begun-requires c κs = search needs
 
 run-requires : tie.Need-run-requires
-run-requires c κs = (c .before .before .before .before .before .before .before .before .begin .ensures .stays, rw (c .before .before .begun .ensures) (begun-stands _ Header 0 (c .before .before .before .before .before .before .before .before .before .before .before .before .before .before .pre .1) (omega arith)))
+run-requires c κs = (c .before .before .before .before .before .before .before .before .begin .ensures .stays, rw (c .before .before .begun .ensures) (begun-stands _ (Header _) 0 (c .before .before .before .before .before .before .before .before .before .before .before .before .before .before .pre .1) (omega arith)))
 
 same-length-3 : tie.Need-same-length-3
 same-length-3 c = search needs
@@ -39,7 +39,7 @@ same-length-4 c = search needs
 returns-2 : tie.Need-returns-2
 returns-2 c =
     let at-walk = c .before .before .before .before .before .before .before in
-    begun-ran _ _ (at-walk .before .before .before .before .before .before .begin .ensures) (at-walk .before .before .p .given .1) (at-walk .begun .ensures) (c .before .before .before .before .run .ensures)
+    begun-ran _ _ _ (at-walk .before .before .before .before .before .before .begin .ensures) (at-walk .before .before .p .given .1) (at-walk .begun .ensures) (c .before .before .before .before .run .ensures)
 
 pub read-begun-spec : {M : Type 1} → statement M
 read-begun-spec =

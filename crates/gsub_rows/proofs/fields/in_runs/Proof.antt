@@ -24,13 +24,16 @@ mul-r c = search needs
 array-copy-out-r : tie.Need-array-copy-out-r Inv-loop μ-loop
 array-copy-out-r c = search needs
 
-array-read-fields : tie.Need-array-read-fields Inv-loop μ-loop
-array-read-fields c = search needs
+array-read-wide : tie.Need-array-read-wide Inv-loop μ-loop
+array-read-wide c = search needs
+
+wide-requires : tie.Need-wide-requires Inv-loop μ-loop
+wide-requires c κs = search needs
 
 returns : tie.Need-returns Inv-loop μ-loop
 returns c =
-    let at-loop = c .before .before .before in
-    look-none (at-loop .before .before .pre .1) (at-loop .loop .inv) (c .before .before .loop-test .taken) (c .if1 .taken)
+    let inside = c .before .before .before in
+    look-none (inside .before .before .before .pre .1) (inside .before .loop .inv) (inside .loop-test .taken) (c .before .wide .ensures .0) (c .if1 .taken)
 
 array-read-times-of : tie.Need-array-read-times-of Inv-loop μ-loop
 array-read-times-of c = search needs
@@ -41,16 +44,22 @@ times-of-requires c κs = search needs
 often-requires : tie.Need-often-requires Inv-loop μ-loop
 often-requires c κs = search needs
 
-abbrev Known : tie.At-loop Inv-loop μ-loop → ℕ → Type 0
-Known at-loop n =
+abbrev Known : tie.At-loop Inv-loop μ-loop → ℕ → ℕ → Type 0
+Known at-loop fields n =
     let args = at-loop .before .before .args in
-    RunRead (λ i. wordAt (now (args .table)) (args .place + i)) (args .t3) (at-loop .loop .run) (at-loop .loop .at) n
+    RunRead (λ i. wordAt (now (args .table)) (args .place + i)) (args .t3) (at-loop .loop .run) (at-loop .loop .at) fields n
 
-known : (c : tie.After-often Inv-loop μ-loop) → Known (c .before .before .before .before .before) (c .often .result)
+known : (c : tie.After-often Inv-loop μ-loop) → Known (c .before .before .before .before .before .before) (c .before .before .before .wide .result) (c .often .result)
 known c =
     let tested = c .before .before in
-    let inside = tested .before .before in
-    run-read (inside .before .before .before .pre .1) (inside .loop-test .taken) (tested .if1 .left) (c .before .times-of .ensures) (c .often .ensures)
+    let inside = tested .before .before .before in
+    run-read
+    (inside .before .before .before .pre .1)
+    (inside .loop-test .taken)
+    (tested .before .wide .ensures .0)
+    (tested .if1 .left)
+    (c .before .times-of .ensures)
+    (c .often .ensures)
 
 mul-if2 : tie.Need-mul-if2 Inv-loop μ-loop
 mul-if2 c = omega (arith, mul-fits (known c))
@@ -60,17 +69,12 @@ rem-field-of c = some-fields (known (c .before))
 
 add-field-of : tie.Need-add-field-of Inv-loop μ-loop
 add-field-of c =
-    let at-loop = c .before .before .before .before .before .before in
-    omega (arith, place-fits (known (c .before)) (at-loop .loop .left))
-
-mul-field-of : tie.Need-mul-field-of Inv-loop μ-loop
-mul-field-of c =
-    let at-loop = c .before .before .before .before .before .before in
+    let at-loop = c .before .before .before .before .before .before .before in
     omega (arith, place-fits (known (c .before)) (at-loop .loop .left))
 
 array-read-field-of : tie.Need-array-read-field-of Inv-loop μ-loop
 array-read-field-of c =
-    let at-loop = c .before .before .before .before .before .before in
+    let at-loop = c .before .before .before .before .before .before .before in
     omega (arith, place-fits (known (c .before)) (at-loop .loop .left))
 
 field-of-requires : tie.Need-field-of-requires Inv-loop μ-loop
@@ -79,7 +83,7 @@ field-of-requires c κs = search needs
 returns-2 : tie.Need-returns-2 Inv-loop μ-loop
 returns-2 c =
     let at-often = c .before .before in
-    let at-loop = at-often .before .before .before .before .before in
+    let at-loop = at-often .before .before .before .before .before .before in
     look-here (known at-often) (at-loop .loop .inv) (c .before .if2 .taken) (c .field-of .ensures .0) (c .field-of .ensures .1)
 
 mul-left : tie.Need-mul-left Inv-loop μ-loop
@@ -88,16 +92,19 @@ mul-left c = omega (arith, mul-fits (known (c .before)))
 sub-left : tie.Need-sub-left Inv-loop μ-loop
 sub-left c = search needs
 
-array-read-at : tie.Need-array-read-at Inv-loop μ-loop
-array-read-at c = search needs
+array-read-wide-2 : tie.Need-array-read-wide-2 Inv-loop μ-loop
+array-read-wide-2 c = search needs
+
+wide-requires-2 : tie.Need-wide-requires-2 Inv-loop μ-loop
+wide-requires-2 c κs = search needs
 
 mul-at : tie.Need-mul-at Inv-loop μ-loop
-mul-at c = omega (arith, size-fits (known (c .before)))
+mul-at c = omega (arith, size-fits (known (c .before .before)) (c .wide2 .ensures .0))
 
 add-at : tie.Need-add-at Inv-loop μ-loop
 add-at c =
-    let inside = c .before .before .before .before .before in
-    omega (arith, size-fits (known (c .before)), inside .before .loop .inv .near, inside .loop-test .taken)
+    let inside = c .before .before .before .before .before .before .before in
+    omega (arith, size-fits (known (c .before .before)) (c .wide2 .ensures .0), inside .before .loop .inv .near, inside .loop-test .taken)
 
 add-run : tie.Need-add-run Inv-loop μ-loop
 add-run c = search needs
@@ -107,8 +114,8 @@ loop-less c = search needs
 
 loop-again : tie.Need-loop-again Inv-loop μ-loop
 loop-again c =
-    let at-loop = c .before .before .before .before .before .before in
-    looked-on (known (c .before)) (at-loop .loop .inv) (c .if2 .left)
+    let at-loop = c .before .before .before .before .before .before .before .before in
+    looked-on (known (c .before .before)) (c .wide2 .ensures .0) (at-loop .loop .inv) (c .before .if2 .left)
 
 returns-3 : tie.Need-returns-3 Inv-loop μ-loop
 returns-3 c = look-end (c .before .before .before .pre .1) (c .before .loop .inv) (c .loop-test .left)
@@ -122,7 +129,8 @@ in-runs-spec =
     loop-holds
     mul-r
     array-copy-out-r
-    array-read-fields
+    array-read-wide
+    wide-requires
     returns
     array-read-times-of
     times-of-requires
@@ -130,13 +138,13 @@ in-runs-spec =
     mul-if2
     rem-field-of
     add-field-of
-    mul-field-of
     array-read-field-of
     field-of-requires
     returns-2
     mul-left
     sub-left
-    array-read-at
+    array-read-wide-2
+    wide-requires-2
     mul-at
     add-at
     add-run

@@ -1,7 +1,8 @@
--- By the mode: a promoted Lookup has the row of type 7, and a new Extension is read from its own bytes.
+-- By the mode: a new Extension is read from its own bytes.
+use native.Mathlib.Omega.{arith}
 use denote.Ref.{now}
 use borrow.Author.Needs.{needs}
-use Rattle.gsub_rows.proofs.Modes.{found-plain, found-last, found-promoted, found-new}
+use Rattle.gsub_rows.proofs.Modes.{fits-lookup, fits-type, found-plain, found-last, found-changed, found-new}
 use Rattle.gsub_rows.proofs.fields.next_in.Statement.{statement}
 use Rattle.gsub_rows.proofs.fields.next_in.Tie as tie
 
@@ -20,20 +21,26 @@ next-field-requires-2 c κs = search needs
 enum-told-3 : tie.Need-enum-told-3
 enum-told-3 c = search needs
 
-row-of-requires : tie.Need-row-of-requires
-row-of-requires c κs = search needs
+next-promoted-requires : tie.Need-next-promoted-requires
+next-promoted-requires c κs =
+    let pre = c .before .before .before .pre in
+    (pre .0, fits-lookup (c .enum-told3 .given .1) (pre .1))
 
-in-runs-requires : tie.Need-in-runs-requires
-in-runs-requires c κs = search needs
-
-enum-told-4 : tie.Need-enum-told-4
-enum-told-4 c = search needs
+enum-known-mode : tie.Need-enum-known-mode
+enum-known-mode c = search needs
 
 slice-aggregate-next-field : tie.Need-slice-aggregate-next-field
 slice-aggregate-next-field c = search needs
 
+mul-next-field : tie.Need-mul-next-field
+mul-next-field c =
+    let mode = c .before .before in
+    omega (arith, fits-type _ (mode .mode .given .1) (mode .before .before .before .pre .1))
+
 next-field-requires-3 : tie.Need-next-field-requires-3
-next-field-requires-3 c κs = search needs
+next-field-requires-3 c κs =
+    let mode = c .before .before in
+    omega (arith, fits-type _ (mode .mode .given .1) (mode .before .before .before .pre .1))
 
 returns : tie.Need-returns
 returns c =
@@ -47,15 +54,14 @@ returns-2 c =
 
 returns-3 : tie.Need-returns-3
 returns-3 c =
-    let mode = c .before .before in
-    let a = mode .before .before .before in
-    found-promoted (now (a .args .table)) (a .args .kind) (a .args .place) (a .args .index) _ (mode .enum-told3 .given .1) (a .pre .1) (c .before .row-of .ensures) (c .in-runs .ensures)
+    let a = c .before .before .before .before .args in
+    found-changed (now (a .table)) (a .kind) (a .place) (a .index) _ (c .before .enum-told3 .given .1) (c .next-promoted .ensures)
 
 returns-4 : tie.Need-returns-4
 returns-4 c =
-    let mode = c .before .before in
+    let mode = c .before .before .before in
     let a = mode .before .before .before .args in
-    found-new (now (a .table)) (a .kind) (a .place) (a .index) _ (mode .enum-told4 .given .1) (c .next-field3 .ensures)
+    found-new (now (a .table)) (a .kind) (a .place) (a .index) _ (mode .mode .given .1) (c .next-field3 .ensures)
 
 pub next-in-spec : {M : Type 1} → statement M
 next-in-spec =
@@ -66,10 +72,10 @@ next-in-spec =
     enum-told-2
     next-field-requires-2
     enum-told-3
-    row-of-requires
-    in-runs-requires
-    enum-told-4
+    next-promoted-requires
+    enum-known-mode
     slice-aggregate-next-field
+    mul-next-field
     next-field-requires-3
     returns
     returns-2

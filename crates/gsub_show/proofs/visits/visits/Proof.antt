@@ -2,6 +2,7 @@
 use native.Mathlib.Omega.{arith}
 use borrow.Author.Needs.{needs}
 use lib.ListN.{length}
+use Rattle.gsub.specs.declared.Scope.the-variants.{Whole}
 use Rattle.gsub.specs.declared.Kind.the-variants.{Header}
 use Rattle.gsub.specs.declared.Mode.the-variants.{Plain}
 use Rattle.gsub_rows.specs.Fields.{Fits}
@@ -22,7 +23,7 @@ begun-requires c κs = search needs
 
 loop-holds : tie.Need-loop-holds Inv-loop μ-loop
 unfolding Fits
-loop-holds c = rw (c .begun .ensures) (begun-stands Plain Header 0 tt (omega arith))
+loop-holds c = rw (c .begun .ensures) (begun-stands Plain (Header Whole) 0 tt (omega arith))
 
 step-requires : tie.Need-step-requires Inv-loop μ-loop
 step-requires c κs = search needs

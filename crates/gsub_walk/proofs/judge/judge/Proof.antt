@@ -11,7 +11,7 @@ lies-in-requires c κs = search needs
 read-requires : tie.Need-read-requires
 read-requires c κs =
     let inside = c .before in
-    (room-in _ _ _ (inside .lies-in .ensures) (c .if1 .taken), omega (arith, inside .before .before .pre .most))
+    (room-in _ _ _ (inside .lies-in .ensures) (c .if1 .taken), omega (arith, inside .before .before .pre .0 .most))
 
 by-rule-requires : tie.Need-by-rule-requires
 by-rule-requires c κs = search needs

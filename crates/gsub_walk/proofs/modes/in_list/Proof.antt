@@ -1,7 +1,7 @@
--- Before the last ones; of type 1; of another.
-use denote.Ref.{now}
+-- Before the last ones; of a type that is promoted; of another.
 use borrow.Author.Needs.{needs}
-use Rattle.gsub_walk.proofs.Children.{is-earlier, is-single, is-other}
+use denote.Ref.{now}
+use Rattle.gsub_walk.proofs.Children.{is-earlier, is-promoted, is-other}
 use Rattle.gsub_walk.proofs.modes.in_list.Statement.{statement}
 use Rattle.gsub_walk.proofs.modes.in_list.Tie as tie
 
@@ -20,22 +20,25 @@ add-if1 c = search needs
 returns : tie.Need-returns
 returns c =
     let a = c .before .before .before .before .args in
-    is-earlier (now (a .table)) (a .last) (a .place) (a .at) (a .lookup) (c .before .before .word-at .ensures) (c .before .less .ensures) (c .if1 .taken)
+    is-earlier (now (a .table)) (a .scope) (a .last) (a .place) (a .at) (a .lookup) (c .before .before .word-at .ensures) (c .before .less .ensures) (c .if1 .taken)
 
 word-at-requires-2 : tie.Need-word-at-requires-2
 word-at-requires-2 c κs = search needs
 
+promotes-requires : tie.Need-promotes-requires
+promotes-requires c κs = search needs
+
 returns-2 : tie.Need-returns-2
 returns-2 c =
-    let late = c .before .before in
+    let late = c .before .before .before in
     let a = late .before .before .before .before .args in
-    is-single (now (a .table)) (a .last) (a .place) (a .at) (a .lookup) (late .before .before .word-at .ensures) (late .before .less .ensures) (late .if1 .left) (c .before .word-at2 .ensures) (c .if2 .taken)
+    is-promoted (now (a .table)) (a .scope) (a .last) (a .place) (a .at) (a .lookup) (late .before .before .word-at .ensures) (late .before .less .ensures) (late .if1 .left) (c .before .before .word-at2 .ensures) (c .before .promotes .ensures) (c .if2 .taken)
 
 returns-3 : tie.Need-returns-3
 returns-3 c =
-    let late = c .before .before in
+    let late = c .before .before .before in
     let a = late .before .before .before .before .args in
-    is-other (now (a .table)) (a .last) (a .place) (a .at) (a .lookup) (late .before .before .word-at .ensures) (late .before .less .ensures) (late .if1 .left) (c .before .word-at2 .ensures) (c .if2 .left)
+    is-other (now (a .table)) (a .scope) (a .last) (a .place) (a .at) (a .lookup) (late .before .before .word-at .ensures) (late .before .less .ensures) (late .if1 .left) (c .before .before .word-at2 .ensures) (c .before .promotes .ensures) (c .if2 .left)
 
 pub in-list-spec : {M : Type 1} → statement M
 in-list-spec =
@@ -47,5 +50,6 @@ in-list-spec =
     add-if1
     returns
     word-at-requires-2
+    promotes-requires
     returns-2
     returns-3)

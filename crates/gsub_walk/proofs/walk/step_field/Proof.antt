@@ -13,7 +13,9 @@ add-at c =
     omega (arith, place-fits (a .pre .0) (a .pre .1) (omega (arith, a .good .0 .1)))
 
 judge-requires : tie.Need-judge-requires
-judge-requires c κs = field-narrow (c .before .before .pre .0)
+judge-requires c κs =
+    let a = c .before .before in
+    (field-narrow (a .pre .0), place-fits (a .pre .0) (a .pre .1) (omega (arith, a .good .0 .1)))
 
 enum-told : tie.Need-enum-told
 enum-told c = search needs

@@ -34,15 +34,15 @@ step-field-requires-3 : tie.Need-step-field-requires-3
 step-field-requires-3 c κs =
     let mode = c .before .before in
     let a = mode .before .before .before in
-    (a .pre, as-promoted _ (mode .enum-told3 .given .1) (next-ok (a .pre)) (c .if1 .left))
+    (a .pre, as-promoted _ (mode .enum-told3 .given .1) (next-ok (a .pre)) (a .pre .found) (c .if1 .left))
 
-enum-told-4 : tie.Need-enum-told-4
-enum-told-4 c = search needs
+enum-known-mode : tie.Need-enum-known-mode
+enum-known-mode c = search needs
 
 step-new-requires : tie.Need-step-new-requires
 step-new-requires c κs =
-    let x = c .before .before .before .pre in
-    (x .stands, x .inside, next-ok x, field-narrow x, c .enum-told4 .given .1)
+    let x = c .before .before .before .before .pre in
+    (x .stands, x .inside, next-ok x, field-narrow x, c .before .mode .given .1)
 
 returns : tie.Need-returns
 returns c = c .step-field .ensures
@@ -57,7 +57,7 @@ returns-4 : tie.Need-returns-4
 returns-4 c = c .step-field3 .ensures
 
 returns-5 : tie.Need-returns-5
-returns-5 c = c .step-new .ensures _ (c .before .before .before .before .pre)
+returns-5 c = c .step-new .ensures _ (c .before .before .before .before .before .pre)
 
 pub step-in-spec : {M : Type 1} → statement M
 step-in-spec =
@@ -70,7 +70,7 @@ step-in-spec =
     enum-told-3
     step-type-requires
     step-field-requires-3
-    enum-told-4
+    enum-known-mode
     step-new-requires
     returns
     returns-2
