@@ -21,7 +21,7 @@ int main(void) {
     if (!records || !work)
         return 1;
 
-    scoterlime_read_answer a = scoterlime_read_gsub(store, sizeof store, records, r, OBJECTS, LINKS, table, t);
+    scoterlime_read_answer a = scoterlime_read_gsub_whole(store, sizeof store, records, r, OBJECTS, LINKS, table, t);
     if (a.number) {
         /* 15 alone comes with a place: where the table has what is not read */
         printf("refused %llu, place %llu\n", number(a.number), number(a.place));

@@ -157,6 +157,17 @@ typedef struct {
 scoterlime_promote_answer scoterlime_promote_gsub(uint8_t *store, size_t n, uint32_t *records, size_t r, uint32_t piece_limit, uint32_t link_limit,
                                                   const uint8_t *table, size_t t, uint8_t *out, size_t o, uint64_t *work, size_t w);
 
+/* As scoterlime_read_gsub, for GSUB tables of versions 1.0 and 1.1 with every lookup type, behind Extensions or not, with feature variations, and with the parameters of 'size',
+ * stylistic sets and character variants (docs/RULES.md, section 16).
+ * Refused: the same. */
+scoterlime_read_answer scoterlime_read_gsub_whole(uint8_t *store, size_t n, uint32_t *records, size_t r, uint32_t piece_limit, uint32_t link_limit,
+                                                  const uint8_t *table, size_t t);
+
+/* As scoterlime_promote_gsub, for the tables that scoterlime_read_gsub_whole reads. The Extensions of a promoted lookup have its own type.
+ * Refused: the same. */
+scoterlime_promote_answer scoterlime_promote_gsub_whole(uint8_t *store, size_t n, uint32_t *records, size_t r, uint32_t piece_limit, uint32_t link_limit,
+                                                        const uint8_t *table, size_t t, uint8_t *out, size_t o, uint64_t *work, size_t w);
+
 /* What a batch tells. number is 0, 12 or 13 as above, or why the batch ended before its last word: 1 to 8 and 16 as above, of the call that was refused, or
  *
  *   19  the next words are no call

@@ -19,6 +19,7 @@ mod reading;
 mod sessions;
 mod spaces;
 mod timing;
+mod whole;
 
 use timing::Times;
 
@@ -34,6 +35,7 @@ fn main() {
         ordering::asked,
         copying::asked,
         reading::asked,
+        whole::asked,
         promoting::asked,
         framing::asked,
         batching::asked,
@@ -72,6 +74,7 @@ fn main() {
     ordering::print();
     copying::print();
     reading::print();
+    whole::print(&[]);
     promoting::print();
     framing::print();
     batching::print();

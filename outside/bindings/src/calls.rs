@@ -69,7 +69,7 @@ pub fn pack(
     unsafe { foreign::scoterlime_pack(store, n, records, r, id, copies, out, o, work, w) }
 }
 
-/// Starts a session and reads a whole table into it.
+/// Starts a session and reads a table of single substitutions into it.
 pub fn read_gsub(
     store: &mut [u8],
     records: &mut [u32],
@@ -83,7 +83,7 @@ pub fn read_gsub(
     unsafe { foreign::scoterlime_read_gsub(store, n, records, r, p, l, table, t) }
 }
 
-/// Reads a whole table and packs it, with as few of its last lookups promoted as
+/// Reads such a table and packs it, with as few of its last lookups promoted as
 /// an order fits. The work memory is that of a pack without copies.
 pub fn promote_gsub(
     store: &mut [u8],
@@ -105,6 +105,47 @@ pub fn promote_gsub(
     let (p, l, out, work) = (piece_limit, link_limit, out.as_mut_ptr(), work.as_mut_ptr());
     unsafe {
         foreign::scoterlime_promote_gsub(store, n, records, r, p, l, table, t, out, o, work, w)
+    }
+}
+
+/// Starts a session and reads a table of any lookups into it.
+pub fn read_gsub_whole(
+    store: &mut [u8],
+    records: &mut [u32],
+    piece_limit: u32,
+    link_limit: u32,
+    table: &[u8],
+) -> GsubRead {
+    let (n, r, t) = (store.len(), records.len(), table.len());
+    let (store, records, table) = (store.as_mut_ptr(), records.as_mut_ptr(), table.as_ptr());
+    let (p, l) = (piece_limit, link_limit);
+    unsafe { foreign::scoterlime_read_gsub_whole(store, n, records, r, p, l, table, t) }
+}
+
+/// Reads a table of any lookups and packs it, with as few of its last lookups promoted as
+/// an order fits. The work memory is that of a pack without copies.
+pub fn promote_gsub_whole(
+    store: &mut [u8],
+    records: &mut [u32],
+    piece_limit: u32,
+    link_limit: u32,
+    table: &[u8],
+    out: &mut [u8],
+    work: &mut [u64],
+) -> GsubPromoted {
+    let (n, r, t, o, w) = (
+        store.len(),
+        records.len(),
+        table.len(),
+        out.len(),
+        work.len(),
+    );
+    let (store, records, table) = (store.as_mut_ptr(), records.as_mut_ptr(), table.as_ptr());
+    let (p, l, out, work) = (piece_limit, link_limit, out.as_mut_ptr(), work.as_mut_ptr());
+    unsafe {
+        foreign::scoterlime_promote_gsub_whole(
+            store, n, records, r, p, l, table, t, out, o, work, w,
+        )
     }
 }
 

@@ -70,6 +70,30 @@ extern "C" {
         work: *mut u64,
         w: usize,
     ) -> GsubPromoted;
+    pub fn scoterlime_read_gsub_whole(
+        store: *mut u8,
+        n: usize,
+        records: *mut u32,
+        r: usize,
+        piece_limit: u32,
+        link_limit: u32,
+        table: *const u8,
+        t: usize,
+    ) -> GsubRead;
+    pub fn scoterlime_promote_gsub_whole(
+        store: *mut u8,
+        n: usize,
+        records: *mut u32,
+        r: usize,
+        piece_limit: u32,
+        link_limit: u32,
+        table: *const u8,
+        t: usize,
+        out: *mut u8,
+        o: usize,
+        work: *mut u64,
+        w: usize,
+    ) -> GsubPromoted;
     pub fn scoterlime_batch_need(piece_limit: u32, link_limit: u32) -> u64;
     pub fn scoterlime_batch(
         store: *mut u8,

@@ -1,8 +1,9 @@
 //! The proved packer for Rust.
 //!
-//! [`calls`] has the eight calls on any two lent stores, the read of a whole GSUB
-//! table, with its lookups promoted where that is needed to pack it, many calls in
-//! one, and a table sent as frames of text and taken in again.
+//! [`calls`] has the eight calls on any two lent stores, the read of a GSUB table of
+//! single substitutions or of any lookups, with its lookups promoted where that is
+//! needed to pack it, many calls in one, and a table sent as frames of text and
+//! taken in again.
 //! [`Batch`] collects calls. [`Session`] keeps both stores borrowed from its start on, so that
 //! nothing else writes them between calls. What include/scoterlime.h asks of
 //! callers holds by Rust's slices: pointers good for their lengths, never null,

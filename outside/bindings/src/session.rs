@@ -65,7 +65,8 @@ impl<'a> Session<'a> {
         Ok(Session { store, records })
     }
 
-    /// Begins a session that holds a whole GSUB table, and gives the root's id.
+    /// Begins a session that holds a GSUB table of single substitutions, and gives
+    /// the root's id.
     pub fn read_gsub(
         store: &'a mut [u8],
         records: &'a mut [u32],
@@ -74,15 +75,31 @@ impl<'a> Session<'a> {
         table: &[u8],
     ) -> Result<(Session<'a>, u32), NotRead> {
         let told = calls::read_gsub(store, records, piece_limit, link_limit, table);
+        Session { store, records }.read(told)
+    }
+
+    /// The same of a GSUB table of any lookups.
+    pub fn read_gsub_whole(
+        store: &'a mut [u8],
+        records: &'a mut [u32],
+        piece_limit: u32,
+        link_limit: u32,
+        table: &[u8],
+    ) -> Result<(Session<'a>, u32), NotRead> {
+        let told = calls::read_gsub_whole(store, records, piece_limit, link_limit, table);
+        Session { store, records }.read(told)
+    }
+
+    fn read(self, told: GsubRead) -> Result<(Session<'a>, u32), NotRead> {
         match told.number {
             // An id is below 16,384.
-            0 => Ok((Session { store, records }, told.id as u32)),
+            0 => Ok((self, told.id as u32)),
             _ => Err(NotRead(told)),
         }
     }
 
-    /// Begins a session that holds a whole GSUB table, and packs it, with as few of
-    /// its last lookups promoted as an order fits.
+    /// Begins a session that holds a GSUB table of single substitutions, and packs
+    /// it, with as few of its last lookups promoted as an order fits.
     pub fn promote_gsub<'o>(
         store: &'a mut [u8],
         records: &'a mut [u32],
@@ -93,6 +110,28 @@ impl<'a> Session<'a> {
     ) -> Result<(Session<'a>, Promoted<'o>), NotPromoted> {
         let (p, l) = (piece_limit, link_limit);
         let told = calls::promote_gsub(store, records, p, l, table, out, work);
+        Session { store, records }.promoted(told, out)
+    }
+
+    /// The same of a GSUB table of any lookups.
+    pub fn promote_gsub_whole<'o>(
+        store: &'a mut [u8],
+        records: &'a mut [u32],
+        (piece_limit, link_limit): (u32, u32),
+        table: &[u8],
+        out: &'o mut [u8],
+        work: &mut [u64],
+    ) -> Result<(Session<'a>, Promoted<'o>), NotPromoted> {
+        let (p, l) = (piece_limit, link_limit);
+        let told = calls::promote_gsub_whole(store, records, p, l, table, out, work);
+        Session { store, records }.promoted(told, out)
+    }
+
+    fn promoted<'o>(
+        self,
+        told: GsubPromoted,
+        out: &'o [u8],
+    ) -> Result<(Session<'a>, Promoted<'o>), NotPromoted> {
         if told.number != 0 {
             return Err(NotPromoted(told));
         }
@@ -103,7 +142,7 @@ impl<'a> Session<'a> {
             // An id is below 16,384.
             root: told.id as u32,
         };
-        Ok((Session { store, records }, promoted))
+        Ok((self, promoted))
     }
 
     pub fn open(&mut self) -> Result<Answer, Refused> {

@@ -46,6 +46,34 @@ fn a_table_is_read_and_packed() {
     assert_eq!(again, expected);
 }
 
+/// One lookup of type 2: a sequence of two for glyph 7.
+const MULTIPLE: [u8; 44] = [
+    0, 1, 0, 0, 0, 10, 0, 10, 0, 12, // header
+    0, 0, // no script, no feature
+    0, 1, 0, 4, // one lookup
+    0, 2, 0, 0, 0, 1, 0, 8, // of type 2
+    0, 1, 0, 8, 0, 1, 0, 14, // a coverage, a sequence
+    0, 1, 0, 1, 0, 7, // glyph 7
+    0, 2, 0, 30, 0, 31, // glyphs 30 and 31
+];
+
+#[test]
+fn a_table_of_another_type_is_read_whole() {
+    let (mut store, mut records) = ([0xee; 60], vec![0xee; records_need(7, 7)]);
+    let narrow = Session::read_gsub(&mut store, &mut records, 7, 7, &MULTIPLE);
+    let place = narrow.err().map(|NotRead(told)| (told.number, told.place));
+    assert_eq!(place, Some((15, 16)));
+    let read = Session::read_gsub_whole(&mut store, &mut records, 7, 7, &MULTIPLE);
+    let (session, root) = read.unwrap();
+    assert_eq!((root, session.tally().unwrap().links), (6, 7));
+    let (mut out, mut work) = ([7; 60], vec![7; work_need(7, 7, 0)]);
+    let packed = session.pack(root, 0, &mut out, &mut work).unwrap();
+    let packed = packed.table.to_vec();
+    assert_eq!(packed.len(), MULTIPLE.len());
+    let again = calls::read_gsub_whole(&mut store, &mut records, 7, 7, &packed);
+    assert_eq!((again.number, again.id, again.bytes), (0, 6, 44));
+}
+
 fn refused(piece_limit: u32, link_limit: u32, store: usize, table: &[u8]) -> GsubRead {
     let (mut store, mut records) = (vec![0; store], vec![0; records_need(OBJECTS, LINKS)]);
     match Session::read_gsub(&mut store, &mut records, piece_limit, link_limit, table) {

@@ -96,6 +96,40 @@ fn the_last_lookup_is_promoted() {
     assert!(out[..told.length as usize] == packed);
 }
 
+/// The same three with type 8: nothing before them, nothing behind them.
+#[test]
+fn lookups_of_another_type_are_promoted_whole() {
+    let n = SUBSTITUTES;
+    let numbers = [
+        1, 0, 10, 10, 12, // header
+        0,  // no script, no feature
+        3, 8, 16, 24, // three lookups
+        8, 0, 1, 24, // of a subtable each
+        8, 0, 1, 26, //
+        8, 0, 1, 28, //
+        1, 30, 0, 0, n, // subtables
+        1, 26, 0, 0, n, //
+        1, 22, 0, 0, n, //
+        1, 1, 7, // coverages
+        1, 1, 8, //
+        1, 1, 9, //
+    ];
+    let mut table: Vec<u8> = numbers.into_iter().flat_map(u16::to_be_bytes).collect();
+    // The last subtable begins where 64 bytes are before it.
+    table.resize(64 + 10 + 2 * usize::from(n), 3);
+    let mut lent = lent(STORE, STORE);
+    let (store, records) = (&mut lent.store, &mut lent.records);
+    let (out, work) = (&mut lent.out, &mut lent.work);
+    let limits = (OBJECTS, LINKS);
+    let narrow = calls::promote_gsub(store, records, OBJECTS, LINKS, &table, out, work);
+    assert_eq!((narrow.number, narrow.place), (15, 20));
+    let whole = Session::promote_gsub_whole(store, records, limits, &table, out, work);
+    let (session, promoted) = whole.unwrap();
+    assert_eq!((promoted.promoted, promoted.root), (1, 12));
+    assert_eq!(promoted.table.len(), HELD + 3 * 4);
+    assert_eq!(session.tally().unwrap().objects, 13);
+}
+
 /// What is told beside a refusal, in a store and an output of these lengths.
 fn refused((objects, links): (u32, u32), store: usize, out: usize, table: &[u8]) -> GsubPromoted {
     let mut lent = lent(store, out);

@@ -5,7 +5,7 @@ use crate::made::{self, Room};
 use crate::pair::{Outcome, Pair};
 use crate::shapes::{Graph, Piece};
 use reference::call::Call;
-use reference::gsub::GsubRead;
+use reference::gsub::{GsubRead, Scope};
 use reference::random::Numbers;
 
 pub struct Checked {
@@ -59,9 +59,9 @@ impl Checked {
     }
 
     /// Reads a table, which begins the session anew.
-    pub fn read_gsub(&mut self, pieces: u32, links: u32, table: &[u8]) -> GsubRead {
-        let told = self.pair.read_gsub(pieces, links, table);
-        self.claims.check_read(pieces, links, table, &told);
+    pub fn read_gsub(&mut self, scope: Scope, limits: (u32, u32), table: &[u8]) -> GsubRead {
+        let told = self.pair.read_gsub(scope, limits, table);
+        self.claims.check_read(scope, limits, table, &told);
         told
     }
 

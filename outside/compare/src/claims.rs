@@ -5,7 +5,8 @@ use crate::met::Met;
 use crate::pair::Outcome;
 use reference::answer::{DONE, OUT_OF_RANGE, UNREADABLE};
 use reference::call::Call;
-use reference::gsub::{reading, GsubPromoted, GsubRead};
+use reference::gsub::reading::{promoted, FieldAt};
+use reference::gsub::{GsubPromoted, GsubRead, Scope};
 use reference::history::History;
 use reference::limits;
 use reference::lines::script;
@@ -72,15 +73,15 @@ impl Claims {
 
     /// What a read of a table told. The root reads as the table does, and the
     /// table shows it.
-    pub fn check_read(&mut self, pieces: u32, links: u32, table: &[u8], told: &GsubRead) {
-        let limits = (pieces, links);
-        let expected = self.history.read_gsub(limits, self.lengths, table);
+    pub fn check_read(&mut self, scope: Scope, limits: (u32, u32), table: &[u8], told: &GsubRead) {
+        let history = &mut self.history;
+        let expected = history.read_scope(scope, limits, self.lengths, table, 0);
         assert_eq!(*told, expected);
         if told.number != OUT_OF_RANGE {
             self.limits = limits;
         }
-        let reading = reading::reading(table);
-        assert!(told.number != UNREADABLE || reading.is_none());
+        let reading = scope.reading(table);
+        check_place(told.number, told.place, reading.as_ref().err());
         if told.number == DONE {
             let root = self.history.reading(told.id as u32).expect("closed");
             assert!(same(root, &reading.expect("it is read")));
@@ -95,6 +96,7 @@ impl Claims {
     /// many lookups promoted, and so does the packed table, which shows it.
     pub fn check_promotion(
         &mut self,
+        scope: Scope,
         limits: (u32, u32),
         table: &[u8],
         told: &GsubPromoted,
@@ -103,8 +105,8 @@ impl Claims {
         if told.number != OUT_OF_RANGE {
             self.limits = limits;
         }
-        let whole = reading::reading(table);
-        assert!(told.number != UNREADABLE || whole.is_none());
+        let whole = scope.reading(table);
+        check_place(told.number, told.place, whole.as_ref().err());
         if told.number != DONE {
             let (pieces, links) = limits;
             self.history
@@ -112,7 +114,8 @@ impl Claims {
             return;
         }
         let last = told.promoted as u16;
-        let read = self.history.read_last(limits, self.lengths, table, last);
+        let history = &mut self.history;
+        let read = history.read_scope(scope, limits, self.lengths, table, last);
         let expected = GsubPromoted {
             bytes: read.bytes,
             links: read.links,
@@ -124,9 +127,9 @@ impl Claims {
         };
         assert_eq!((read.number, *told), (DONE, expected));
         let root = self.history.reading(read.id as u32).expect("closed");
-        let promoted = reading::promoted(&whole.expect("it is read"), last.into());
+        let promoted = promoted(&whole.expect("it is read"), last.into());
         assert!(same(root, &promoted));
-        let packed_reading = reading::reading(packed).expect("packed");
+        let packed_reading = scope.reading(packed).expect("packed");
         assert!(same(root, &packed_reading));
         assert!(reader::shows(packed, root));
     }
@@ -193,6 +196,15 @@ impl Claims {
         };
         let counts = |a: &Answer| [a.bytes, a.links, a.objects, a.depth];
         assert_eq!(counts(answer), counts(&tally));
+    }
+}
+
+/// 15 is told where the table cannot be read, at the first field that is why.
+fn check_place(number: u64, place: u64, fault: Option<&FieldAt>) {
+    match (number, fault) {
+        (UNREADABLE, Some(fault)) => assert_eq!(place, fault.place as u64, "{fault:?}"),
+        (UNREADABLE, None) => panic!("15 at {place} of a table that can be read"),
+        _ => assert_eq!(place, 0),
     }
 }
 

@@ -7,7 +7,7 @@
 //!   hold one, [`tamper`] damaged stores.
 //! * [`writing`] has many lists of calls that write one graph, [`written`] the sessions that they
 //!   leave, [`by_id`] orders that differ between these.
-//! * [`tables`] and [`crafted`] make GSUB tables of [`parts`], [`nested`] those that fit no order
+//! * [`tables`], [`whole`] and [`crafted`] make GSUB tables of [`parts`], [`nested`] those that fit no order
 //!   before lookups are promoted, [`real`] has those of fonts, [`spoilt`] damages them, [`reads`] reads
 //!   them, [`promotions`] has their lookups promoted.
 //! * [`batches`] has calls as words, [`no_call`] words that are none.
@@ -43,6 +43,7 @@ pub mod sharing;
 pub mod spoilt;
 pub mod tables;
 pub mod tamper;
+pub mod whole;
 pub mod writing;
 pub mod written;
 

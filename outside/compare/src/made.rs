@@ -19,6 +19,11 @@ pub struct Room {
 }
 
 impl Room {
+    /// Of objects and of links.
+    pub fn limits(self) -> (u32, u32) {
+        (self.pieces, self.links)
+    }
+
     pub fn layout(self) -> Layout {
         Layout {
             pieces: self.pieces as usize,

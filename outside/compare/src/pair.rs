@@ -4,7 +4,7 @@ use crate::fenced::Fenced;
 use crate::proved::Proved;
 use reference::answer::NUMBERS;
 use reference::call::{Call, Stores};
-use reference::gsub::{self, GsubRead};
+use reference::gsub::{GsubRead, Scope};
 use reference::lines::{hex, script};
 use reference::random::Numbers;
 use reference::Answer;
@@ -60,18 +60,19 @@ impl Pair {
     }
 
     /// Reads a table on both.
-    pub fn read_gsub(&mut self, pieces: u32, links: u32, table: &[u8]) -> GsubRead {
+    pub fn read_gsub(&mut self, scope: Scope, limits: (u32, u32), table: &[u8]) -> GsubRead {
         self.keep();
-        let expected = gsub::read_gsub(&mut self.reference, pieces, links, table);
+        let expected = scope.read_last(&mut self.reference, limits, table, 0);
         let lent = Fenced::new(table, 0x5f);
-        let told = self.proved.read_gsub(pieces, links, lent.inside());
-        let line = || shown((pieces, links), table);
+        let told = self.proved.read_gsub(scope, limits, lent.inside());
+        let line = || shown(limits, table);
         assert_eq!(told, expected, "{}", line());
         assert!(self.proved.same(&self.reference), "stores: {}", line());
         let fences = self.proved.fences_stand() && lent.stands() && lent.inside() == table;
         assert!(fences, "a write outside lent memory: {}", line());
         if told.number != 0 {
             // 13 of a start leaves all as it was.
+            let (pieces, links) = limits;
             self.before.run(&Call::Start { pieces, links });
             let left = self.proved.same(&self.before);
             assert!(left, "refused, and not as started: {}", line());

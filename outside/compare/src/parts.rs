@@ -7,6 +7,9 @@ use crate::Numbers;
 pub struct Part {
     pub bytes: Vec<u8>,
     leads: Vec<Lead>,
+    /// Bytes that its last count counts and that are not its own: what lies behind
+    /// it is read as its end.
+    pub tail: usize,
 }
 
 /// An offset of so many bytes at a place, and the part that it leads to.
@@ -20,8 +23,10 @@ struct Lead {
 impl Part {
     pub fn of(numbers: &[u16]) -> Part {
         let bytes = numbers.iter().flat_map(|n| n.to_be_bytes()).collect();
-        let leads = Vec::new();
-        Part { bytes, leads }
+        Part {
+            bytes,
+            ..Part::default()
+        }
     }
 
     pub fn put(&mut self, number: u16) {
@@ -49,8 +54,20 @@ impl Part {
 }
 
 /// What the last part reaches, each part behind all that lead to it, and now and
-/// then a few bytes that nothing leads to.
+/// then a few bytes that nothing leads to. Behind them all the fill that is read as
+/// the end of parts that have a tail.
 pub fn laid_out(parts: &[Part], numbers: &mut Numbers) -> Vec<u8> {
+    let (mut table, end) = without_fill(parts, numbers);
+    if end > table.len() {
+        let byte = numbers.next() as u8;
+        let fill = (table.len()..end).map(|at| byte.wrapping_add(at as u8));
+        table.extend(fill);
+    }
+    table
+}
+
+/// The parts, and where the last tail ends.
+fn without_fill(parts: &[Part], numbers: &mut Numbers) -> (Vec<u8>, usize) {
     let mut waiting = vec![0; parts.len()];
     let reached = reached(parts);
     for &part in &reached {
@@ -82,7 +99,9 @@ pub fn laid_out(parts: &[Part], numbers: &mut Numbers) -> Vec<u8> {
             table[at..at + width].copy_from_slice(&offset[offset.len() - width..]);
         }
     }
-    table
+    let end = |&part: &usize| places[part] + parts[part].bytes.len() + parts[part].tail;
+    let end = reached.iter().map(end).max();
+    (table, end.unwrap_or(0))
 }
 
 /// The last part, and those that reached ones lead to.

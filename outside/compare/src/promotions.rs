@@ -5,7 +5,7 @@ use crate::pair::{shown, Pair};
 use crate::{Checked, Numbers};
 use reference::answer::DONE;
 use reference::call::Call;
-use reference::gsub::{self, GsubPromoted};
+use reference::gsub::{GsubPromoted, Scope};
 use reference::limits;
 
 /// What a promotion told, and the table that it packed.
@@ -54,6 +54,7 @@ impl Pair {
     /// lengths.
     pub fn promote_gsub(
         &mut self,
+        scope: Scope,
         limits: (u32, u32),
         table: &[u8],
         (output, work): (usize, usize),
@@ -63,8 +64,8 @@ impl Pair {
         let lent = Lent::any(output, work, numbers);
         let mut left = lent.clone();
         let Lent { output, work } = &mut left;
-        let expected = gsub::promote_gsub(&mut self.reference, limits, table, output, work);
-        let (told, proved_left) = self.promote_fenced(limits, table, &lent);
+        let expected = scope.promote(&mut self.reference, limits, table, output, work);
+        let (told, proved_left) = self.promote_fenced(scope, limits, table, &lent);
         let line = || shown(limits, table);
         assert_eq!(told, expected, "{}", line());
         assert!(self.proved.same(&self.reference), "stores: {}", line());
@@ -89,6 +90,7 @@ impl Pair {
     /// it may write.
     fn promote_fenced(
         &mut self,
+        scope: Scope,
         limits: (u32, u32),
         table: &[u8],
         lent: &Lent,
@@ -98,6 +100,7 @@ impl Pair {
         let mut work = Fenced::new(&lent.work, 0x5f5f);
         let proved = &mut self.proved;
         let told = proved.promote_gsub(
+            scope,
             limits,
             slice.inside(),
             output.inside_mut(),
@@ -122,14 +125,17 @@ impl Checked {
     /// Promotes a table's lookups, which begins the session anew.
     pub fn promote_gsub(
         &mut self,
+        scope: Scope,
         limits: (u32, u32),
         table: &[u8],
         lengths: (usize, usize),
         numbers: &mut Numbers,
     ) -> Outcome {
-        let outcome = self.pair.promote_gsub(limits, table, lengths, numbers);
+        let pair = &mut self.pair;
+        let outcome = pair.promote_gsub(scope, limits, table, lengths, numbers);
         let Outcome { told, packed } = &outcome;
-        self.claims.check_promotion(limits, table, told, packed);
+        self.claims
+            .check_promotion(scope, limits, table, told, packed);
         outcome
     }
 }

@@ -4,7 +4,7 @@ use crate::fenced::Fenced;
 use bindings::calls;
 use reference::batch::Batched;
 use reference::call::{Call, Stores};
-use reference::gsub::{GsubPromoted, GsubRead};
+use reference::gsub::{GsubPromoted, GsubRead, Scope};
 use reference::Answer;
 
 pub struct Proved {
@@ -37,9 +37,18 @@ impl Proved {
         })
     }
 
-    pub fn read_gsub(&mut self, pieces: u32, links: u32, table: &[u8]) -> GsubRead {
+    pub fn read_gsub(
+        &mut self,
+        scope: Scope,
+        (pieces, links): (u32, u32),
+        table: &[u8],
+    ) -> GsubRead {
         let (bytes, records) = (self.bytes.inside_mut(), self.records.inside_mut());
-        let told = calls::read_gsub(bytes, records, pieces, links, table);
+        let read = match scope {
+            Scope::Single => calls::read_gsub,
+            Scope::Whole => calls::read_gsub_whole,
+        };
+        let told = read(bytes, records, pieces, links, table);
         GsubRead {
             number: told.number,
             bytes: told.bytes,
@@ -53,13 +62,18 @@ impl Proved {
 
     pub fn promote_gsub(
         &mut self,
+        scope: Scope,
         (pieces, links): (u32, u32),
         table: &[u8],
         output: &mut [u8],
         work: &mut [u64],
     ) -> GsubPromoted {
         let (bytes, records) = (self.bytes.inside_mut(), self.records.inside_mut());
-        let told = calls::promote_gsub(bytes, records, pieces, links, table, output, work);
+        let promote = match scope {
+            Scope::Single => calls::promote_gsub,
+            Scope::Whole => calls::promote_gsub_whole,
+        };
+        let told = promote(bytes, records, pieces, links, table, output, work);
         GsubPromoted {
             number: told.number,
             bytes: told.bytes,

@@ -4,8 +4,7 @@ use crate::made::Room;
 use crate::pair::Pair;
 use crate::{Checked, Numbers};
 use reference::answer::{DONE, NO_FIT};
-use reference::gsub::reading::reading;
-use reference::gsub::{lookup_count, substitute, GsubRead};
+use reference::gsub::{lookup_count, substitute, GsubRead, Scope};
 use reference::history::History;
 use reference::limits;
 use reference::reading::same;
@@ -18,7 +17,7 @@ const ROOMY: Room = Room {
 };
 
 /// What a read by the history alone tells.
-pub fn by_history(room: Room, table: &[u8]) -> GsubRead {
+pub fn by_history(scope: Scope, room: Room, table: &[u8]) -> GsubRead {
     let Room {
         pieces,
         links,
@@ -26,12 +25,12 @@ pub fn by_history(room: Room, table: &[u8]) -> GsubRead {
     } = room;
     let lengths = (store, room.layout().need());
     let mut history = History::begin(pieces, links, lengths.0, lengths.1).expect("in range");
-    history.read_gsub((pieces, links), lengths, table)
+    history.read_scope(scope, (pieces, links), lengths, table, 0)
 }
 
 /// What a whole table holds when there is room for it.
-pub fn held(table: &[u8]) -> GsubRead {
-    by_history(ROOMY, table)
+pub fn held(scope: Scope, table: &[u8]) -> GsubRead {
+    by_history(scope, ROOMY, table)
 }
 
 /// A room about as large as a table needs that holds this. Tables that are led to
@@ -61,15 +60,15 @@ pub fn roomy(held: &GsubRead) -> Room {
 }
 
 /// A read into stores that hold anything.
-pub fn read(room: Room, table: &[u8], numbers: &mut Numbers) -> (Checked, GsubRead) {
+pub fn read(scope: Scope, room: Room, table: &[u8], numbers: &mut Numbers) -> (Checked, GsubRead) {
     let records = room.layout().need() + numbers.below(3);
     let mut checked = Checked::unread(room.store, records, numbers);
-    let told = checked.read_gsub(room.pieces, room.links, table);
+    let told = checked.read_gsub(scope, room.limits(), table);
     (checked, told)
 }
 
 /// A read whose limits or stores are out of range.
-pub fn out_of_range(table: &[u8], numbers: &mut Numbers) -> GsubRead {
+pub fn out_of_range(scope: Scope, table: &[u8], numbers: &mut Numbers) -> GsubRead {
     let (mut pieces, mut links, mut store) = (4, 5, 60);
     let mut records = limits::record_need(pieces.into(), links.into()) as usize;
     match numbers.below(5) {
@@ -79,13 +78,14 @@ pub fn out_of_range(table: &[u8], numbers: &mut Numbers) -> GsubRead {
         3 => records = numbers.below(records),
         _ => records -= 1,
     }
-    Pair::new(store, records, numbers).read_gsub(pieces, links, table)
+    Pair::new(store, records, numbers).read_gsub(scope, (pieces, links), table)
 }
 
 /// Packs the root that an accepted read of a table told, and reads the packed
 /// table into the same stores: all is as before. Gives the packed table, if there
 /// is an order that fits.
 pub fn packed(
+    scope: Scope,
     checked: &mut Checked,
     room: Room,
     table: &[u8],
@@ -100,10 +100,10 @@ pub fn packed(
     assert_eq!((outcome.answer.number, length), (DONE, told.bytes));
     let packed = outcome.output.1[..length as usize].to_vec();
     let before = checked.pair.reference.clone();
-    let again = checked.read_gsub(room.pieces, room.links, &packed);
+    let again = checked.read_gsub(scope, room.limits(), &packed);
     assert_eq!(again, *told);
     assert!(checked.pair.reference == before, "the same session");
-    let readings = [table, &packed].map(|table| reading(table).expect("read"));
+    let readings = [table, &packed].map(|table| scope.reading(table).expect("read"));
     assert!(same(&readings[0], &readings[1]));
     Some(packed)
 }

@@ -1,6 +1,7 @@
 //! Damaged tables.
 
 use crate::Numbers;
+use reference::gsub::reading::FieldAt;
 
 /// Numbers that fields are set to.
 const SET_TO: [u16; 3] = [0, 1, 0xffff];
@@ -19,6 +20,20 @@ pub fn set(table: &[u8]) -> impl Iterator<Item = Vec<u8>> + '_ {
 fn with(table: &[u8], at: usize, number: u16) -> Vec<u8> {
     let mut spoilt = table.to_vec();
     spoilt[at..at + 2].copy_from_slice(&number.to_be_bytes());
+    spoilt
+}
+
+/// Numbers that a field which is judged is set to.
+const JUDGED: [usize; 12] = [0, 1, 2, 3, 4, 5, 6, 7, 8, 9, 256, 0xffff];
+
+/// The table with a number in a field that does not belong there: an offset is 0.
+pub fn judged(table: &[u8], field: &FieldAt, numbers: &mut Numbers) -> Vec<u8> {
+    let part = field.part.expect("a field that is there");
+    let bad: Vec<usize> = JUDGED.into_iter().filter(|&n| !part.holds(n)).collect();
+    let number = numbers.one_of(&bad).to_be_bytes();
+    let (at, width) = (field.place, part.width());
+    let mut spoilt = table.to_vec();
+    spoilt[at..at + width].copy_from_slice(&number[number.len() - width..]);
     spoilt
 }
 

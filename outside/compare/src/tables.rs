@@ -14,15 +14,15 @@ const TAGS: [[u8; 4]; 6] = [
 const FLAGS: [u16; 6] = [0, 0, 8, 0x0010, 0x001f, 0xffef];
 
 /// The parts made so far, and how many entries a list has at most.
-struct Making<'a> {
-    parts: Vec<Part>,
-    most: usize,
-    numbers: &'a mut Numbers,
+pub(crate) struct Making<'a> {
+    pub parts: Vec<Part>,
+    pub most: usize,
+    pub numbers: &'a mut Numbers,
 }
 
 impl Making<'_> {
     /// Some parts of a kind, which lead to those below. Some are equal.
-    fn some(&mut self, make: fn(&mut Self, &[usize]) -> Part, below: &[usize]) -> Vec<usize> {
+    pub fn some(&mut self, make: fn(&mut Self, &[usize]) -> Part, below: &[usize]) -> Vec<usize> {
         let count = 1 + self.numbers.below(self.most + 1);
         let first = self.parts.len();
         for _ in 0..count {
@@ -38,13 +38,13 @@ impl Making<'_> {
     }
 
     /// Mostly at least one.
-    fn count(&mut self) -> u16 {
+    pub fn count(&mut self) -> u16 {
         let least = self.most.min(self.numbers.below(6)).min(1);
         (least + self.numbers.below(self.most + 1 - least)) as u16
     }
 
     /// Mostly one of few, so that subtables cover the same ones.
-    fn glyph(&mut self) -> u16 {
+    pub fn glyph(&mut self) -> u16 {
         match self.numbers.below(8) {
             0 => self.numbers.next() as u16,
             1 => 0xffff - self.numbers.below(3) as u16,
@@ -52,7 +52,7 @@ impl Making<'_> {
         }
     }
 
-    fn put_glyphs(&mut self, part: &mut Part, count: u16) {
+    pub fn put_glyphs(&mut self, part: &mut Part, count: u16) {
         part.put(count);
         for _ in 0..count {
             let glyph = self.glyph();
@@ -60,7 +60,7 @@ impl Making<'_> {
         }
     }
 
-    fn coverage(&mut self, _: &[usize]) -> Part {
+    pub fn coverage(&mut self, _: &[usize]) -> Part {
         let format = 1 + self.numbers.below(2) as u16;
         let (mut part, count) = (Part::of(&[format]), self.count());
         if format == 1 {
@@ -85,7 +85,7 @@ impl Making<'_> {
         part
     }
 
-    fn single(&mut self, coverages: &[usize]) -> Part {
+    pub fn single(&mut self, coverages: &[usize]) -> Part {
         let format = 1 + self.numbers.below(2) as u16;
         let mut part = Part::of(&[format]);
         part.lead(self.numbers.one_of(coverages));
@@ -112,7 +112,7 @@ impl Making<'_> {
         self.lookup_of(7, extensions)
     }
 
-    fn lookup_of(&mut self, kind: u16, subtables: &[usize]) -> Part {
+    pub fn lookup_of(&mut self, kind: u16, subtables: &[usize]) -> Part {
         let (flag, count) = (self.numbers.one_of(&FLAGS), self.count());
         let mut part = Part::of(&[kind, flag, count]);
         for _ in 0..count {
@@ -125,7 +125,7 @@ impl Making<'_> {
         part
     }
 
-    fn lookup_list(&mut self, lookups: &[usize]) -> Part {
+    pub fn lookup_list(&mut self, lookups: &[usize]) -> Part {
         let count = self.count();
         let mut part = Part::of(&[count]);
         for _ in 0..count {
@@ -134,21 +134,21 @@ impl Making<'_> {
         part
     }
 
-    fn feature(&mut self, _: &[usize]) -> Part {
+    pub fn feature(&mut self, _: &[usize]) -> Part {
         let mut part = Part::of(&[0]);
         let count = self.count();
         self.put_glyphs(&mut part, count);
         part
     }
 
-    fn lang_sys(&mut self, _: &[usize]) -> Part {
+    pub fn lang_sys(&mut self, _: &[usize]) -> Part {
         let mut part = Part::of(&[0, 0xffff]);
         let count = self.count();
         self.put_glyphs(&mut part, count);
         part
     }
 
-    fn script(&mut self, lang_systems: &[usize]) -> Part {
+    pub fn script(&mut self, lang_systems: &[usize]) -> Part {
         let mut part = Part::default();
         match self.numbers.below(3) {
             0 => part.put(0),
@@ -159,7 +159,7 @@ impl Making<'_> {
     }
 
     /// A list of scripts, or of features.
-    fn tagged_list(&mut self, below: &[usize]) -> Part {
+    pub fn tagged_list(&mut self, below: &[usize]) -> Part {
         let mut part = Part::default();
         self.put_tagged(&mut part, below);
         part

@@ -4,6 +4,8 @@ use crate::answer::Answer;
 use crate::history::History;
 use crate::pack::pack;
 use crate::session;
+use crate::sound::sound;
+use crate::view::View;
 
 /// A call with its arguments. A pack lends an output and a work memory of the
 /// given lengths.
@@ -89,6 +91,28 @@ impl Stores {
             Call::Tally => session::tally(bytes, records),
             Call::Pack { id, copies, .. } => pack(bytes, records, *id, *copies, output, work),
         }
+    }
+
+    /// Runs a call of a session that is sound, as a start and the calls behind it
+    /// leave it: all of it is not looked at again. Drops and packs are not made so.
+    pub fn run_sound(&mut self, call: &Call) -> Answer {
+        let (bytes, records) = (&mut self.bytes[..], &mut self.records[..]);
+        let look: session::Look = |bytes, records| View::framed(bytes, records);
+        match call {
+            Call::Open => session::open_by(look, bytes, records),
+            Call::Put(added) => session::put_by(look, bytes, records, added),
+            Call::Link { width, id, inner } => {
+                session::link_by(look, bytes, records, [*width, *id, *inner])
+            }
+            Call::Close => session::close_by(look, bytes, records),
+            Call::Tally => session::tally_by(look, bytes, records),
+            Call::Start { .. } | Call::Drop | Call::Pack { .. } => self.run(call).answer,
+        }
+    }
+
+    /// Whether the two stores hold a sound session.
+    pub fn is_sound(&self) -> bool {
+        sound(&self.bytes, &self.records).is_some()
     }
 }
 

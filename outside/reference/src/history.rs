@@ -15,6 +15,9 @@ pub struct History {
     open: Vec<Draft>,
     /// By id.
     closed: Vec<Rc<Reading>>,
+    /// The sizes and the fields of the closed ones.
+    closed_bytes: usize,
+    closed_fields: usize,
 }
 
 impl History {
@@ -31,14 +34,22 @@ impl History {
             store_length: store,
             open: Vec::new(),
             closed: Vec::new(),
+            closed_bytes: 0,
+            closed_fields: 0,
         })
     }
 
     /// The same with these pieces closed, all of them different: for sessions
     /// too large to be made call by call.
     pub fn with_closed(mut self, pieces: Vec<Rc<Reading>>) -> History {
-        self.closed.extend(pieces);
+        pieces.into_iter().for_each(|piece| self.keep(piece));
         self
+    }
+
+    fn keep(&mut self, piece: Rc<Reading>) {
+        self.closed_bytes += piece.size();
+        self.closed_fields += piece.fields().len();
+        self.closed.push(piece);
     }
 
     /// A later start on the same stores.
@@ -136,7 +147,7 @@ impl History {
         self.open.pop();
         let id = equal.unwrap_or(self.closed.len());
         if equal.is_none() {
-            self.closed.push(reading);
+            self.keep(reading);
         }
         Answer {
             id: id as u64,
@@ -183,14 +194,12 @@ impl History {
     /// The sizes of all the pieces kept, open and closed.
     pub fn sum(&self) -> usize {
         let open: usize = self.open.iter().map(Draft::size).sum();
-        let closed: usize = self.closed.iter().map(|reading| reading.size()).sum();
-        open + closed
+        open + self.closed_bytes
     }
 
     fn field_sum(&self) -> usize {
         let open: usize = self.open.iter().map(Draft::field_count).sum();
-        let closed: usize = self.closed.iter().map(|r| r.fields().len()).sum();
-        open + closed
+        open + self.closed_fields
     }
 
     fn passes_store(&self, more: usize) -> bool {

@@ -1,8 +1,7 @@
 //! The call that reads a table and packs it, with as few of its last lookups
 //! promoted as an order fits.
 
-use super::lookup_count;
-use super::read::{read_last, GsubRead};
+use super::{lookup_count, GsubRead, Scope};
 use crate::answer::{Answer, DONE, NO_FIT};
 use crate::call::{Call, Stores};
 
@@ -66,9 +65,10 @@ impl GsubPromoted {
     }
 }
 
-/// Starts a session in these stores for each trial, reads the table into it with
-/// none of its lookups promoted, the last one, the last two and so on, and packs
-/// it, up to the first trial that is not refused because no order fits.
+/// Starts a session in these stores for each trial, reads the table of single
+/// substitutions into it with none of its lookups promoted, the last one, the last
+/// two and so on, and packs it, up to the first trial that is not refused because
+/// no order fits.
 pub fn promote_gsub(
     stores: &mut Stores,
     limits: (u32, u32),
@@ -76,26 +76,50 @@ pub fn promote_gsub(
     out: &mut [u8],
     work: &mut [u64],
 ) -> GsubPromoted {
-    let mut promoted = 0;
-    loop {
-        let read = read_last(stores, limits, table, promoted);
-        if read.number != DONE {
-            return GsubPromoted::not_read(read);
-        }
-        let pack = Call::Pack {
-            id: read.id as u32,
-            copies: 0,
-            output: out.len(),
-            work: work.len(),
-        };
-        let packed = stores.run_lent(&pack, out, work);
-        match packed.number {
-            DONE => return GsubPromoted::accepted(read, packed.length, promoted),
-            NO_FIT if promoted < lookup_count(table) => promoted += 1,
-            _ => {
-                let (pieces, links) = limits;
-                stores.run(&Call::Start { pieces, links });
-                return GsubPromoted::not_packed(packed);
+    Scope::Single.promote(stores, limits, table, out, work)
+}
+
+/// The same of any table.
+pub fn promote_gsub_whole(
+    stores: &mut Stores,
+    limits: (u32, u32),
+    table: &[u8],
+    out: &mut [u8],
+    work: &mut [u64],
+) -> GsubPromoted {
+    Scope::Whole.promote(stores, limits, table, out, work)
+}
+
+impl Scope {
+    pub fn promote(
+        self,
+        stores: &mut Stores,
+        limits: (u32, u32),
+        table: &[u8],
+        out: &mut [u8],
+        work: &mut [u64],
+    ) -> GsubPromoted {
+        let mut promoted = 0;
+        loop {
+            let read = self.read_last(stores, limits, table, promoted);
+            if read.number != DONE {
+                return GsubPromoted::not_read(read);
+            }
+            let pack = Call::Pack {
+                id: read.id as u32,
+                copies: 0,
+                output: out.len(),
+                work: work.len(),
+            };
+            let packed = stores.run_lent(&pack, out, work);
+            match packed.number {
+                DONE => return GsubPromoted::accepted(read, packed.length, promoted),
+                NO_FIT if promoted < lookup_count(table) => promoted += 1,
+                _ => {
+                    let (pieces, links) = limits;
+                    stores.run(&Call::Start { pieces, links });
+                    return GsubPromoted::not_packed(packed);
+                }
             }
         }
     }

@@ -1,7 +1,8 @@
 //! The call that reads a table into a session.
 
 use super::walk::{Refusal, Walk};
-use crate::answer::{Answer, DONE};
+use super::Scope;
+use crate::answer::{Answer, DONE, OUT_OF_RANGE};
 use crate::call::{Call, Stores};
 use crate::history::History;
 
@@ -45,43 +46,57 @@ impl GsubRead {
     }
 }
 
-/// Starts a session in these stores and reads the table into it.
+/// Starts a session in these stores and reads a table of single substitutions
+/// into it.
 pub fn read_gsub(stores: &mut Stores, pieces: u32, links: u32, table: &[u8]) -> GsubRead {
-    read_last(stores, (pieces, links), table, 0)
+    Scope::Single.read_last(stores, (pieces, links), table, 0)
 }
 
-/// The same with the last lookups promoted, so many of them.
-pub(super) fn read_last(
-    stores: &mut Stores,
-    limits: (u32, u32),
-    table: &[u8],
-    promoted: u16,
-) -> GsubRead {
-    read_by(limits, table, promoted, &mut |call| stores.run(call).answer)
+/// The same of any table.
+pub fn read_gsub_whole(stores: &mut Stores, pieces: u32, links: u32, table: &[u8]) -> GsubRead {
+    Scope::Whole.read_last(stores, (pieces, links), table, 0)
 }
 
-/// The read of a session by its calls. A refused one leaves what a start does.
-fn read_by(
-    (pieces, links): (u32, u32),
-    table: &[u8],
-    promoted: u16,
-    run: &mut dyn FnMut(&Call) -> Answer,
-) -> GsubRead {
-    let start = Call::Start { pieces, links };
-    let started = run(&start);
-    if started.number != DONE {
-        return GsubRead::refused(started.number, 0);
+impl Scope {
+    /// A read with the last lookups promoted, so many of them.
+    pub fn read_last(
+        self,
+        stores: &mut Stores,
+        limits: (u32, u32),
+        table: &[u8],
+        promoted: u16,
+    ) -> GsubRead {
+        // From its start on the session is sound, and is looked at once it is read.
+        let told = self.read_calls(limits, table, promoted, &mut |call| stores.run_sound(call));
+        assert!(told.number == OUT_OF_RANGE || stores.is_sound());
+        told
     }
-    let walk = Walk {
-        slice: table,
-        promoted,
-        run,
-    };
-    match walk.whole() {
-        Ok(id) => GsubRead::accepted(id, run(&Call::Tally)),
-        Err(Refusal { number, place }) => {
-            run(&start);
-            GsubRead::refused(number, place)
+
+    /// The read of a session by its calls. A refused one leaves what a start does.
+    pub fn read_calls(
+        self,
+        (pieces, links): (u32, u32),
+        table: &[u8],
+        promoted: u16,
+        run: &mut dyn FnMut(&Call) -> Answer,
+    ) -> GsubRead {
+        let start = Call::Start { pieces, links };
+        let started = run(&start);
+        if started.number != DONE {
+            return GsubRead::refused(started.number, 0);
+        }
+        let walk = Walk {
+            scope: self,
+            slice: table,
+            promoted,
+            run,
+        };
+        match walk.whole() {
+            Ok(id) => GsubRead::accepted(id, run(&Call::Tally)),
+            Err(Refusal { number, place }) => {
+                run(&start);
+                GsubRead::refused(number, place)
+            }
         }
     }
 }
@@ -101,11 +116,23 @@ impl History {
     pub fn read_last(
         &mut self,
         limits: (u32, u32),
+        lengths: (usize, usize),
+        table: &[u8],
+        promoted: u16,
+    ) -> GsubRead {
+        self.read_scope(Scope::Single, limits, lengths, table, promoted)
+    }
+
+    /// The same of any scope.
+    pub fn read_scope(
+        &mut self,
+        scope: Scope,
+        limits: (u32, u32),
         (store, records): (usize, usize),
         table: &[u8],
         promoted: u16,
     ) -> GsubRead {
-        read_by(limits, table, promoted, &mut |call| {
+        scope.read_calls(limits, table, promoted, &mut |call| {
             let told = self.feed(call, store, records);
             told.expect("a read makes no pack")
         })

@@ -1,151 +1,180 @@
 //! What a table reads, by a description of each kind of table and without a
 //! session: bytes, fields, and the readings that the fields lead to.
 
-use super::{number, EXTENSION, SINGLE, USE_MARK_FILTERING_SET};
+use super::rows::{Kind, Part};
+use super::{big_endian, number, Scope, EXTENSION, LONG, SHORT};
 use crate::reading::{Draft, Reading};
 use std::collections::HashMap;
 use std::rc::Rc;
 
-#[derive(Clone, Copy, Debug, PartialEq, Eq, Hash)]
-enum Kind {
-    Header,
-    ScriptList,
-    Script,
-    LangSys,
-    FeatureList,
-    Feature,
-    LookupList,
-    Lookup,
-    Extension,
-    SingleSubst,
-    Coverage,
-}
-
-/// A part of a table.
-#[derive(Clone, Copy)]
-enum Part {
-    /// Two bytes that must be this number.
-    Fixed(u16),
-    /// Two bytes.
-    Number,
-    Tag,
-    Offset(Kind),
-    /// An offset of four bytes.
-    LongOffset(Kind),
-    /// An offset, or zero for no child.
-    OffsetOrNone(Kind),
-    /// A number, and then these parts as many times.
-    Repeated(&'static [Part]),
-}
-
-use Kind::*;
-use Part::*;
-
-const NUMBERS: Part = Repeated(&[Number]);
-const SINGLES: Part = Repeated(&[Offset(SingleSubst)]);
-const EXTENSIONS: Part = Repeated(&[Offset(Extension)]);
-
-impl Part {
-    fn width(self) -> usize {
-        match self {
-            Tag | LongOffset(_) => 4,
-            _ => 2,
-        }
-    }
-}
-
-impl Kind {
-    /// The parts of the table of this kind at a place. Formats, the lookup type and
-    /// the lookup flag decide what follows them.
-    fn parts(self, slice: &[u8], place: usize) -> Option<&'static [Part]> {
-        let at = |further| number(slice, place + further);
-        Some(match self {
-            Header => &[
-                Fixed(1),
-                Fixed(0),
-                Offset(ScriptList),
-                Offset(FeatureList),
-                Offset(LookupList),
-            ],
-            ScriptList => &[Repeated(&[Tag, Offset(Script)])],
-            Script => &[OffsetOrNone(LangSys), Repeated(&[Tag, Offset(LangSys)])],
-            LangSys => &[Fixed(0), Number, NUMBERS],
-            FeatureList => &[Repeated(&[Tag, Offset(Feature)])],
-            Feature => &[Fixed(0), NUMBERS],
-            LookupList => &[Repeated(&[Offset(Lookup)])],
-            Lookup => match (at(0)?, at(2)? & USE_MARK_FILTERING_SET) {
-                (EXTENSION, 0) => &[Fixed(EXTENSION), Number, EXTENSIONS],
-                (EXTENSION, _) => &[Fixed(EXTENSION), Number, EXTENSIONS, Number],
-                (_, 0) => &[Fixed(SINGLE), Number, SINGLES],
-                _ => &[Fixed(SINGLE), Number, SINGLES, Number],
-            },
-            Extension => &[Fixed(1), Fixed(SINGLE), LongOffset(SingleSubst)],
-            SingleSubst if at(0)? == 1 => &[Fixed(1), Offset(Coverage), Number],
-            SingleSubst => &[Fixed(2), Offset(Coverage), NUMBERS],
-            Coverage if at(0)? == 1 => &[Fixed(1), NUMBERS],
-            Coverage => &[Fixed(2), Repeated(&[Number, Number, Number])],
-        })
-    }
-}
-
-/// What the whole table reads, if it can be read.
+/// What a table of single substitutions reads, if it can be read.
 pub fn reading(slice: &[u8]) -> Option<Rc<Reading>> {
-    Tables {
-        slice,
-        known: HashMap::new(),
+    Scope::Single.reading(slice).ok()
+}
+
+/// A field: where it is, in which kind of table, and what should be there.
+#[derive(Clone, Copy, Debug, PartialEq)]
+pub struct FieldAt {
+    pub place: usize,
+    pub kind: Kind,
+    /// None, where the table is cut before what decides its parts.
+    pub part: Option<Part>,
+}
+
+impl Scope {
+    /// What a whole table reads, or the first field that is not read.
+    pub fn reading(self, slice: &[u8]) -> Result<Rc<Reading>, FieldAt> {
+        Tables::new(self, slice).reading(Kind::Header, 0)
     }
-    .reading(Header, 0)
+
+    /// The tables that a table is made of, by their kinds and places, if it can be
+    /// read.
+    pub fn tables(self, slice: &[u8]) -> Option<Vec<(Kind, usize)>> {
+        let mut tables = Tables::new(self, slice);
+        tables.reading(Kind::Header, 0).ok()?;
+        let mut met: Vec<_> = tables.known.into_keys().collect();
+        met.sort_unstable();
+        Some(met)
+    }
+
+    /// The fields that may not hold any number, each once, up to the first that is
+    /// not read.
+    pub fn judged(self, slice: &[u8]) -> Vec<FieldAt> {
+        let mut tables = Tables::new(self, slice);
+        let _ = tables.reading(Kind::Header, 0);
+        tables.judged
+    }
 }
 
 struct Tables<'a> {
+    scope: Scope,
     slice: &'a [u8],
     /// One table may be met often, and is looked at once.
-    known: HashMap<(Kind, usize), Option<Rc<Reading>>>,
+    known: HashMap<(Kind, usize), Rc<Reading>>,
+    /// Its fields that may not hold any number.
+    judged: Vec<FieldAt>,
 }
 
 impl Tables<'_> {
-    fn reading(&mut self, kind: Kind, place: usize) -> Option<Rc<Reading>> {
+    fn new(scope: Scope, slice: &[u8]) -> Tables<'_> {
+        Tables {
+            scope,
+            slice,
+            known: HashMap::new(),
+            judged: Vec::new(),
+        }
+    }
+
+    fn reading(&mut self, kind: Kind, place: usize) -> Result<Rc<Reading>, FieldAt> {
         if let Some(known) = self.known.get(&(kind, place)) {
-            return known.clone();
+            return Ok(Rc::clone(known));
         }
         let mut draft = Draft::default();
-        let parts = kind.parts(self.slice, place);
-        let read = parts.and_then(|parts| self.append(parts, place, &mut draft));
-        let reading = read.map(|()| draft.finish());
-        self.known.insert((kind, place), reading.clone());
-        reading
+        let parts = kind.parts(self.scope, self.slice, place);
+        let parts = parts.ok_or_else(|| self.cut(kind, place))?;
+        self.append(parts, kind, place, &mut draft)?;
+        let reading = draft.finish();
+        self.known.insert((kind, place), Rc::clone(&reading));
+        Ok(reading)
+    }
+
+    /// Why a table is not read that is cut before the field that decides its parts:
+    /// that field, or the one before it.
+    fn cut(&self, kind: Kind, place: usize) -> FieldAt {
+        let first = number(self.slice, place);
+        let good = match kind {
+            Kind::Header => first == Some(1),
+            Kind::Lookup => first.is_some_and(|first| self.scope.has_lookup(first)),
+            _ => false,
+        };
+        let place = if good { place + SHORT } else { place };
+        let part = None;
+        FieldAt { place, kind, part }
     }
 
     /// Reads parts of the table at a place from where the draft ends.
-    fn append(&mut self, parts: &[Part], place: usize, draft: &mut Draft) -> Option<()> {
+    fn append(
+        &mut self,
+        parts: &[Part],
+        kind: Kind,
+        place: usize,
+        draft: &mut Draft,
+    ) -> Result<(), FieldAt> {
         for part in parts {
             let here = place + draft.size();
-            let width = part.width();
-            let bytes = self.slice.get(here..here + width)?;
-            let number = big_endian(bytes);
-            match *part {
-                Fixed(other) if number != usize::from(other) => return None,
-                Offset(_) | LongOffset(_) if number == 0 => return None,
-                Offset(kind) | LongOffset(kind) | OffsetOrNone(kind) if number != 0 => {
-                    let child = self.reading(kind, place + number)?;
-                    draft.link(width, 0, child);
-                }
-                _ => draft.put(bytes),
+            let this = FieldAt {
+                place: here,
+                kind,
+                part: Some(*part),
+            };
+            let field = self.slice.get(here..here + part.width()).ok_or(this)?;
+            let number = big_endian(field);
+            if part.is_judged() {
+                self.judged.push(this);
             }
-            if let Repeated(parts) = part {
-                for _ in 0..number {
-                    self.append(parts, place, draft)?;
+            if !part.holds(number) {
+                return Err(this);
+            }
+            match self.child(*part, place, here) {
+                Some(child) if number != 0 => {
+                    let child = self.reading(child, place + number)?;
+                    draft.link(part.width(), 0, child);
                 }
+                _ => draft.put(field),
+            }
+            let (times, parts) = self.repeated(*part, place, number);
+            for _ in 0..times {
+                self.append(parts, kind, place, draft)?;
             }
         }
-        Some(())
+        Ok(())
+    }
+
+    /// What an offset at `here` in the table at `place` leads to.
+    fn child(&self, part: Part, place: usize, here: usize) -> Option<Kind> {
+        let at = |place| number(self.slice, place);
+        match part {
+            Part::Offset(kind) | Part::OffsetOrNone(kind) => Some(kind),
+            Part::LongOffset(kind) | Part::LongOffsetOrNone(kind) => Some(kind),
+            Part::TaggedFeature => {
+                let tag = self.slice.get(here - LONG..here)?;
+                Some(Kind::feature(self.scope.params(tag)))
+            }
+            Part::OwnSubtable => at(place).map(Kind::Subtable),
+            Part::ExtendedSubtable => at(here - SHORT).map(Kind::Subtable),
+            _ => None,
+        }
+    }
+
+    /// Which parts follow, and how often. No count is less than none.
+    fn repeated(&self, part: Part, place: usize, count: usize) -> (usize, &'static [Part]) {
+        let at = |further| usize::from(number(self.slice, place + further).unwrap_or(0));
+        match part {
+            Part::Repeated(parts) => (count, parts),
+            Part::RepeatedLess(parts) => (count.saturating_sub(1), parts),
+            Part::Times(further, parts) => (at(further), parts),
+            Part::TimesLess(further, parts) => (at(further).saturating_sub(1), parts),
+            _ => (0, &[]),
+        }
     }
 }
 
-fn big_endian(bytes: &[u8]) -> usize {
-    bytes
-        .iter()
-        .fold(0, |number, &byte| 256 * number + usize::from(byte))
+impl Part {
+    fn is_judged(self) -> bool {
+        // Nothing that is judged may hold any number, so not these two.
+        self.width() > 0 && !(self.holds(0) && self.holds(usize::MAX))
+    }
+
+    /// Whether its field may hold this number.
+    pub fn holds(self, number: usize) -> bool {
+        match self {
+            Part::Fixed(only) => number == usize::from(only),
+            Part::OneOf(some) => some.iter().any(|&one| number == usize::from(one)),
+            Part::Offset(_) | Part::LongOffset(_) => number != 0,
+            Part::TaggedFeature | Part::OwnSubtable | Part::ExtendedSubtable => number != 0,
+            _ => true,
+        }
+    }
 }
 
 /// What a table reads in which the last lookups stand promoted, so many of them:
@@ -171,16 +200,17 @@ fn promoted_list(list: &Rc<Reading>, last: usize) -> Rc<Reading> {
 
 /// One of type 7 is as it was.
 fn promoted_lookup(lookup: &Rc<Reading>) -> Rc<Reading> {
-    let kind = EXTENSION.to_be_bytes();
-    if lookup.bytes().starts_with(&kind) {
+    let (kind, rest) = lookup.bytes().split_at(SHORT);
+    let extended = EXTENSION.to_be_bytes();
+    if kind == extended {
         return Rc::clone(lookup);
     }
-    let bytes = [&kind, &lookup.bytes()[kind.len()..]].concat();
+    let bytes = [&extended, rest].concat();
     with_children(lookup, &bytes, |_, subtable| {
         let mut extension = Draft::default();
         extension.put(&1_u16.to_be_bytes());
-        extension.put(&SINGLE.to_be_bytes());
-        extension.link(4, 0, Rc::clone(subtable));
+        extension.put(kind);
+        extension.link(LONG, 0, Rc::clone(subtable));
         extension.finish()
     })
 }

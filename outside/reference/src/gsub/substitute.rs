@@ -1,12 +1,13 @@
 //! What a lookup does to a glyph, in a table that a read accepts.
 
-use super::{long_number, number, EXTENSION};
+use super::{long_number, number, EXTENSION, SINGLE};
 
 /// The header's fields, and those of the tables below, by their places.
 const LOOKUP_LIST: usize = 8;
 const FIRST_LOOKUP: usize = 2;
 const SUBTABLE_COUNT: usize = 4;
 const FIRST_SUBTABLE: usize = 6;
+const EXTENDED_TYPE: usize = 2;
 const EXTENDED: usize = 4;
 const COVERAGE: usize = 2;
 const DELTA: usize = 4;
@@ -30,9 +31,9 @@ pub fn substitute(slice: &[u8], lookup: u16, glyph: u16) -> u16 {
     let list = led(slice, 0, LOOKUP_LIST);
     let lookup = led(slice, list, FIRST_LOOKUP + 2 * usize::from(lookup));
     let count = usize::from(field(slice, lookup + SUBTABLE_COUNT));
-    // The first subtable that covers the glyph counts, whatever it does to it.
-    for at in 0..count {
-        let subtable = subtable(slice, lookup, at);
+    // The first subtable that covers the glyph counts, whatever it does to it. Those
+    // of other types are passed over.
+    for subtable in (0..count).filter_map(|at| single(slice, lookup, at)) {
         if let Some(index) = covered(slice, led(slice, subtable, COVERAGE), glyph) {
             return replaced(slice, subtable, index, glyph);
         }
@@ -40,14 +41,18 @@ pub fn substitute(slice: &[u8], lookup: u16, glyph: u16) -> u16 {
     glyph
 }
 
-/// A lookup's subtable of this number: of type 7, what its Extension leads to.
-fn subtable(slice: &[u8], lookup: usize, at: usize) -> usize {
+/// A lookup's subtable of this number, if that is of type 1: of a lookup of type 7,
+/// what its Extension leads to.
+fn single(slice: &[u8], lookup: usize, at: usize) -> Option<usize> {
     let subtable = led(slice, lookup, FIRST_SUBTABLE + 2 * at);
-    if field(slice, lookup) != EXTENSION {
-        return subtable;
+    match field(slice, lookup) {
+        SINGLE => Some(subtable),
+        EXTENSION if field(slice, subtable + EXTENDED_TYPE) == SINGLE => {
+            let offset = long_number(slice, subtable + EXTENDED);
+            Some(subtable + offset.expect("a read accepts the table") as usize)
+        }
+        _ => None,
     }
-    let offset = long_number(slice, subtable + EXTENDED);
-    subtable + offset.expect("a read accepts the table") as usize
 }
 
 /// By a subtable that has the glyph at this index of its coverage.

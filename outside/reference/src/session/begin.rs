@@ -1,6 +1,6 @@
 //! start, open and tally.
 
-use super::done;
+use super::{done, Look};
 use crate::answer::{self, Answer};
 use crate::limits;
 use crate::sound::sound;
@@ -28,7 +28,11 @@ pub fn start(store: &mut [u8], records: &mut [u32], pieces: u32, links: u32) -> 
 
 /// Opens an empty piece inside the others.
 pub fn open(store: &[u8], records: &mut [u32]) -> Answer {
-    let Some(view) = sound(store, records) else {
+    open_by(sound, store, records)
+}
+
+pub fn open_by(look: Look, store: &[u8], records: &mut [u32]) -> Answer {
+    let Some(view) = look(store, records) else {
         return Answer::bare(answer::NOT_SOUND);
     };
     let (layout, depth) = (view.layout, view.depth());
@@ -43,7 +47,11 @@ pub fn open(store: &[u8], records: &mut [u32]) -> Answer {
 
 /// Tells the counts and changes nothing.
 pub fn tally(store: &[u8], records: &[u32]) -> Answer {
-    match sound(store, records) {
+    tally_by(sound, store, records)
+}
+
+pub fn tally_by(look: Look, store: &[u8], records: &[u32]) -> Answer {
+    match look(store, records) {
         Some(view) => Answer::with_tally_of(answer::DONE, view.tally()),
         None => Answer::bare(answer::NOT_SOUND),
     }

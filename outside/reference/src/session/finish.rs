@@ -1,13 +1,17 @@
 //! close and drop: what ends the innermost open piece.
 
-use super::done;
+use super::{done, Look};
 use crate::answer::{self, Answer};
 use crate::sound::sound;
 use crate::view::{Layout, Piece, CLOSED_COUNT, OPEN_DEPTH};
 
 /// Closes the innermost piece and gives its id, the lowest equal one if any.
 pub fn close(store: &mut [u8], records: &mut [u32]) -> Answer {
-    let Some(view) = sound(store, records) else {
+    close_by(sound, store, records)
+}
+
+pub fn close_by(look: Look, store: &mut [u8], records: &mut [u32]) -> Answer {
+    let Some(view) = look(store, records) else {
         return Answer::bare(answer::NOT_SOUND);
     };
     let refuse = |number| Answer::with_tally_of(number, view.tally());

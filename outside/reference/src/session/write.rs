@@ -1,12 +1,16 @@
 //! put and link: what is appended to the innermost open piece.
 
-use super::done;
+use super::{done, Look};
 use crate::answer::{self, Answer};
 use crate::sound::sound;
 
 /// Appends bytes.
 pub fn put(store: &mut [u8], records: &mut [u32], bytes: &[u8]) -> Answer {
-    let Some(view) = sound(store, records) else {
+    put_by(sound, store, records, bytes)
+}
+
+pub fn put_by(look: Look, store: &mut [u8], records: &mut [u32], bytes: &[u8]) -> Answer {
+    let Some(view) = look(store, records) else {
         return Answer::bare(answer::NOT_SOUND);
     };
     if view.depth() == 0 {
@@ -25,7 +29,16 @@ pub fn put(store: &mut [u8], records: &mut [u32], bytes: &[u8]) -> Answer {
 
 /// Appends a field of zero bytes and records it with its inner start and child.
 pub fn link(store: &[u8], records: &mut [u32], width: u32, id: u32, inner: u32) -> Answer {
-    let Some(view) = sound(store, records) else {
+    link_by(sound, store, records, [width, id, inner])
+}
+
+pub fn link_by(
+    look: Look,
+    store: &[u8],
+    records: &mut [u32],
+    [width, id, inner]: [u32; 3],
+) -> Answer {
+    let Some(view) = look(store, records) else {
         return Answer::bare(answer::NOT_SOUND);
     };
     let tally = view.tally();

@@ -2,16 +2,20 @@
 
 use compare::lists::Style;
 use compare::pair::Counts;
-use compare::{seed, spoilt, tables, Checked, Numbers};
+use compare::{seed, spoilt, tables, whole, Checked, Numbers};
 use reference::answer::NUMBERS;
 use reference::call::Call;
+use reference::gsub::Scope;
 
-/// A small table, now and then damaged.
-fn any_table(numbers: &mut Numbers) -> Vec<u8> {
-    let table = tables::random(numbers.below(3), numbers);
+/// A small table of either scope, now and then damaged.
+fn any_table(numbers: &mut Numbers) -> (Scope, Vec<u8>) {
+    let (scope, table) = match numbers.below(2) {
+        0 => (Scope::Single, tables::random(numbers.below(3), numbers)),
+        _ => (Scope::Whole, whole::random(numbers.below(3), numbers)),
+    };
     match numbers.below(4) {
-        0 => spoilt::any(&table, numbers),
-        _ => table,
+        0 => (scope, spoilt::any(&table, numbers)),
+        _ => (scope, table),
     }
 }
 
@@ -31,7 +35,8 @@ fn run(style: Style, calls: usize, numbers: &mut Numbers) -> [Counts; 2] {
             0 => style.limits(numbers),
             _ => (style.pieces, style.links),
         };
-        let told = session.read_gsub(pieces, links, &any_table(numbers));
+        let (scope, table) = any_table(numbers);
+        let told = session.read_gsub(scope, (pieces, links), &table);
         reads[told.number as usize] += 1;
         session.run(&Call::Tally, numbers);
     }

@@ -5,16 +5,19 @@ mod promoted;
 mod random;
 mod real;
 mod shared;
+mod whole;
+mod whole_real;
 mod wide;
 
 use compare::made::Room;
 use compare::pair::Counts;
 use compare::{reads, Numbers};
-use reference::gsub::GsubRead;
+use reference::answer::NUMBERS;
+use reference::gsub::{GsubRead, Scope};
 
 /// What was met.
-#[derive(Default)]
 struct Seen {
+    scope: Scope,
     told: Counts,
     /// Tables packed and read again, and those that no order fits.
     packed: usize,
@@ -24,14 +27,24 @@ struct Seen {
 }
 
 impl Seen {
+    fn of(scope: Scope) -> Seen {
+        Seen {
+            scope,
+            told: [0; NUMBERS],
+            packed: 0,
+            unfit: 0,
+            changed: 0,
+        }
+    }
+
     /// Reads a table; if it is accepted, packs it and reads it again.
     fn read(&mut self, room: Room, table: &[u8], numbers: &mut Numbers) -> GsubRead {
-        let (mut checked, told) = reads::read(room, table, numbers);
+        let (mut checked, told) = reads::read(self.scope, room, table, numbers);
         self.told[told.number as usize] += 1;
         if told.number != 0 {
             return told;
         }
-        match reads::packed(&mut checked, room, table, &told, numbers) {
+        match reads::packed(self.scope, &mut checked, room, table, &told, numbers) {
             Some(packed) => {
                 self.packed += 1;
                 self.changed += reads::same_substitutes(table, &packed, &reads::named(table));

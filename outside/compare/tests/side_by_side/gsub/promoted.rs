@@ -9,24 +9,37 @@ use compare::nested::Nested;
 use compare::promotions::Outcome;
 use compare::{reads, real, seed, spoilt, tables, Checked, Numbers, Pair};
 use reference::answer::NUMBERS;
-use reference::gsub::{lookup_count, GsubPromoted};
+use reference::gsub::{lookup_count, GsubPromoted, Scope};
 
 /// What was met.
-#[derive(Default)]
-struct Seen {
-    told: [usize; NUMBERS],
+pub(super) struct Seen {
+    scope: Scope,
+    pub(super) told: [usize; NUMBERS],
     /// Tables packed with none promoted, with one, with some, and with all.
-    none: usize,
-    one: usize,
-    some: usize,
-    all: usize,
+    pub(super) none: usize,
+    pub(super) one: usize,
+    pub(super) some: usize,
+    pub(super) all: usize,
     /// Those that had a lookup of type 7 before, and had some promoted.
-    extended: usize,
+    pub(super) extended: usize,
     /// Glyphs that a lookup changes.
-    changed: usize,
+    pub(super) changed: usize,
 }
 
 impl Seen {
+    pub(super) fn of(scope: Scope) -> Seen {
+        Seen {
+            scope,
+            told: [0; NUMBERS],
+            none: 0,
+            one: 0,
+            some: 0,
+            all: 0,
+            extended: 0,
+            changed: 0,
+        }
+    }
+
     fn add(&mut self, told: &GsubPromoted, table: &[u8]) {
         self.told[told.number as usize] += 1;
         if told.number != 0 {
@@ -41,7 +54,7 @@ impl Seen {
         }
     }
 
-    fn report(&self) {
+    pub(super) fn report(&self) {
         let promotions: usize = self.told.iter().sum();
         println!("  {promotions} promotions");
         let counts = self.told.iter().enumerate();
@@ -64,7 +77,7 @@ impl Seen {
 }
 
 /// Output and work memory for a room: mostly enough.
-fn lengths(room: Room, numbers: &mut Numbers) -> (usize, usize) {
+pub(super) fn lengths(room: Room, numbers: &mut Numbers) -> (usize, usize) {
     let need = bindings::work_need(room.pieces, room.links, 0);
     let work = match numbers.below(40) {
         0 => numbers.below(need),
@@ -80,21 +93,21 @@ fn lengths(room: Room, numbers: &mut Numbers) -> (usize, usize) {
 
 /// Promotes a table in a room; if that is accepted, reads what is packed: all is
 /// as before.
-fn promote(
+pub(super) fn promote(
     room: Room,
     table: &[u8],
     lengths: (usize, usize),
     seen: &mut Seen,
     numbers: &mut Numbers,
 ) -> GsubPromoted {
-    let records = room.layout().need() + numbers.below(3);
+    let (scope, records) = (seen.scope, room.layout().need() + numbers.below(3));
     let mut checked = Checked::unread(room.store, records, numbers);
     let limits = (room.pieces, room.links);
-    let Outcome { told, packed } = checked.promote_gsub(limits, table, lengths, numbers);
+    let Outcome { told, packed } = checked.promote_gsub(scope, limits, table, lengths, numbers);
     seen.add(&told, table);
     if told.number == 0 {
         let before = checked.pair.reference.clone();
-        let again = checked.read_gsub(room.pieces, room.links, &packed);
+        let again = checked.read_gsub(scope, room.limits(), &packed);
         assert_eq!((again.number, again.id), (0, told.id));
         assert!(checked.pair.reference == before, "the same session");
         let glyphs = glyphs(numbers);
@@ -111,7 +124,7 @@ fn glyphs(numbers: &mut Numbers) -> Vec<u16> {
 }
 
 /// Room for a table that is refused for the length of a subtable.
-const LARGE: Room = Room {
+pub(super) const LARGE: Room = Room {
     pieces: 60,
     links: 90,
     store: 300_000,
@@ -120,7 +133,7 @@ const LARGE: Room = Room {
 /// Room for a table with all lookups promoted, or about as much as it needs with
 /// some.
 fn room(nested: &Nested, table: &[u8], numbers: &mut Numbers) -> Room {
-    let held = reads::held(table);
+    let held = reads::held(Scope::Single, table);
     if held.number != 0 {
         return LARGE;
     }
@@ -140,13 +153,13 @@ fn room(nested: &Nested, table: &[u8], numbers: &mut Numbers) -> Room {
 }
 
 /// Damaged before the fill, where nearly every byte counts.
-fn damaged(table: &[u8], front: usize, numbers: &mut Numbers) -> Vec<u8> {
+pub(super) fn damaged(table: &[u8], front: usize, numbers: &mut Numbers) -> Vec<u8> {
     let (front, fill) = table.split_at(front);
     [&spoilt::any(front, numbers), fill].concat()
 }
 
 /// The same with the output a byte shorter than the packed table, and as long.
-fn at_the_edge(
+pub(super) fn at_the_edge(
     room: Room,
     table: &[u8],
     told: &GsubPromoted,
@@ -163,7 +176,7 @@ fn at_the_edge(
 #[test]
 fn lookups_are_promoted_at_random() {
     let mut numbers = seed::numbers("promotions");
-    let mut seen = Seen::default();
+    let mut seen = Seen::of(Scope::Single);
     for turn in 0..5_000 {
         let nested = Nested::random(&mut numbers);
         let (whole, front) = nested.laid_out(&mut numbers);
@@ -193,7 +206,7 @@ fn lookups_are_promoted_at_random() {
 #[test]
 fn harfbuzz() {
     let mut numbers = seed::numbers("promotions of HarfBuzz");
-    let mut seen = Seen::default();
+    let mut seen = Seen::of(Scope::Single);
     let tables = [large::five(), large::sharing().0, large::eight().0];
     for (table, promoted) in tables.iter().zip([3, 2, 0]) {
         let need = bindings::work_need(LARGE.pieces, LARGE.links, 0);
@@ -207,10 +220,10 @@ fn harfbuzz() {
 #[test]
 fn what_fits_is_read_and_packed() {
     let mut numbers = seed::numbers("promotions of what fits");
-    let mut seen = Seen::default();
+    let mut seen = Seen::of(Scope::Single);
     for turn in 0..2_000 {
         let whole = tables::random(turn % 7, &mut numbers);
-        let room = reads::roomy(&reads::held(&whole));
+        let room = reads::roomy(&reads::held(Scope::Single, &whole));
         let table = match turn % 4 {
             0 => spoilt::any(&whole, &mut numbers),
             _ => whole,
@@ -220,7 +233,7 @@ fn what_fits_is_read_and_packed() {
         assert_eq!(told.promoted, 0);
     }
     for (name, table) in real::tables() {
-        let held = reads::held(&table);
+        let held = reads::held(Scope::Single, &table);
         let room = reads::roomy(&held);
         let need = bindings::work_need(room.pieces, room.links, 0);
         let told = promote(room, &table, (room.store, need), &mut seen, &mut numbers);
@@ -250,7 +263,13 @@ fn out_of_range() {
     ] {
         let mut pair = Pair::new(store, records, &mut numbers);
         let lengths = (900, bindings::work_need(40, 50, 0));
-        let outcome = pair.promote_gsub((pieces, links), &table, lengths, &mut numbers);
+        let outcome = pair.promote_gsub(
+            Scope::Single,
+            (pieces, links),
+            &table,
+            lengths,
+            &mut numbers,
+        );
         assert_eq!(outcome.told.number, 13);
     }
 }

@@ -2,10 +2,11 @@
 
 use super::Seen;
 use compare::{reads, seed, spoilt, tables, Numbers};
+use reference::gsub::Scope;
 
 /// Reads a table whole, damaged in every field, and cut at every byte.
-fn in_all_ways(table: &[u8], seen: &mut Seen, numbers: &mut Numbers) {
-    let held = reads::held(table);
+pub(super) fn in_all_ways(table: &[u8], seen: &mut Seen, numbers: &mut Numbers) {
+    let held = reads::held(seen.scope, table);
     assert_eq!(held.number, 0);
     for _ in 0..12 {
         seen.read(reads::about(&held, numbers), table, numbers);
@@ -17,27 +18,27 @@ fn in_all_ways(table: &[u8], seen: &mut Seen, numbers: &mut Numbers) {
 }
 
 /// Reads a table damaged so many times.
-fn in_some_ways(table: &[u8], times: usize, seen: &mut Seen, numbers: &mut Numbers) {
-    let held = reads::held(table);
+pub(super) fn in_some_ways(table: &[u8], times: usize, seen: &mut Seen, numbers: &mut Numbers) {
+    let held = reads::held(seen.scope, table);
     for _ in 0..times {
         let spoilt = spoilt::any(table, numbers);
         seen.read(reads::about(&held, numbers), &spoilt, numbers);
     }
-    let told = reads::out_of_range(table, numbers);
+    let told = reads::out_of_range(seen.scope, table, numbers);
     seen.told[told.number as usize] += 1;
 }
 
 #[test]
 fn tables_whole_and_damaged() {
     let mut numbers = seed::numbers("GSUB tables");
-    let mut seen = Seen::default();
+    let mut seen = Seen::of(Scope::Single);
     for turn in 0..48 {
         let table = tables::random(1 + turn % 3, &mut numbers);
         in_all_ways(&table, &mut seen, &mut numbers);
     }
     for turn in 0..600 {
         let table = tables::random(turn % 9, &mut numbers);
-        let held = reads::held(&table);
+        let held = reads::held(Scope::Single, &table);
         seen.read(reads::about(&held, &mut numbers), &table, &mut numbers);
         in_some_ways(&table, 12, &mut seen, &mut numbers);
     }
@@ -64,9 +65,16 @@ fn every_glyph_has_the_same_substitutes() {
     let mut changed = 0;
     for turn in 0..20 {
         let table = tables::random(2 + turn % 4, &mut numbers);
-        let room = reads::roomy(&reads::held(&table));
-        let (mut checked, told) = reads::read(room, &table, &mut numbers);
-        let packed = reads::packed(&mut checked, room, &table, &told, &mut numbers);
+        let room = reads::roomy(&reads::held(Scope::Single, &table));
+        let (mut checked, told) = reads::read(Scope::Single, room, &table, &mut numbers);
+        let packed = reads::packed(
+            Scope::Single,
+            &mut checked,
+            room,
+            &table,
+            &told,
+            &mut numbers,
+        );
         changed += reads::same_substitutes(&table, &packed.unwrap(), &glyphs);
     }
     println!("  {changed} substitutes");

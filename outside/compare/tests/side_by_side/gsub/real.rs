@@ -2,7 +2,7 @@
 
 use super::Seen;
 use compare::{reads, real, seed, spoilt, Numbers};
-use reference::gsub::substitute;
+use reference::gsub::{substitute, Scope};
 use std::collections::HashSet;
 
 /// Tables up to this length are asked for every glyph's substitutes.
@@ -41,9 +41,9 @@ const BECOMES: [(&str, u16, u16, u16); 11] = [
 #[test]
 fn tables_of_fonts() {
     let mut numbers = seed::numbers("tables of fonts");
-    let (mut seen, mut met) = (Seen::default(), HashSet::new());
+    let (mut seen, mut met) = (Seen::of(Scope::Single), HashSet::new());
     for (name, table) in real::tables() {
-        let held = reads::held(&table);
+        let held = reads::held(Scope::Single, &table);
         let told = seen.read(reads::roomy(&held), &table, &mut numbers);
         assert_eq!(told, held, "{name}");
         println!("  {name}: {} bytes, {} packed", table.len(), told.bytes);
@@ -66,20 +66,27 @@ fn substitutes_of_fonts() {
         for (_, lookup, glyph, becomes) in BECOMES.iter().filter(|(own, ..)| *own == name) {
             assert_eq!(substitute(&table, *lookup, *glyph), *becomes, "{name}");
         }
-        let held = reads::held(&table);
+        let held = reads::held(Scope::Single, &table);
         if table.len() > SHORT || held.number != 0 {
             continue;
         }
         let room = reads::roomy(&held);
-        let (mut checked, told) = reads::read(room, &table, &mut numbers);
-        let packed = reads::packed(&mut checked, room, &table, &told, &mut numbers);
+        let (mut checked, told) = reads::read(Scope::Single, room, &table, &mut numbers);
+        let packed = reads::packed(
+            Scope::Single,
+            &mut checked,
+            room,
+            &table,
+            &told,
+            &mut numbers,
+        );
         let changed = reads::same_substitutes(&table, &packed.expect("it fits"), &glyphs);
         println!("  {name}: {changed} substitutes");
     }
 }
 
 /// Damaged tables, those of the shortest in all ways.
-fn damaged(table: &[u8], numbers: &mut Numbers) -> Vec<Vec<u8>> {
+pub(super) fn damaged(table: &[u8], numbers: &mut Numbers) -> Vec<Vec<u8>> {
     let some = 2 + 24_000 / table.len();
     let mut all: Vec<_> = (0..some).map(|_| spoilt::any(table, numbers)).collect();
     if table.len() <= SHORTEST {
@@ -91,9 +98,9 @@ fn damaged(table: &[u8], numbers: &mut Numbers) -> Vec<Vec<u8>> {
 #[test]
 fn damaged_tables_of_fonts() {
     let mut numbers = seed::numbers("damaged tables of fonts");
-    let mut seen = Seen::default();
+    let mut seen = Seen::of(Scope::Single);
     for (_, table) in real::tables() {
-        let held = reads::held(&table);
+        let held = reads::held(Scope::Single, &table);
         for spoilt in damaged(&table, &mut numbers) {
             let room = match numbers.below(2) {
                 0 => reads::roomy(&held),

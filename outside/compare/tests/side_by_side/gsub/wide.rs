@@ -4,6 +4,7 @@ use compare::made::Room;
 use compare::proved::Proved;
 use compare::{crafted, reads, seed, Numbers};
 use reference::call::{Call, Stores};
+use reference::gsub::Scope;
 
 /// The most substitutes that a subtable can have.
 const MOST: u16 = 32_764;
@@ -35,9 +36,16 @@ fn a_table_can_be_read_and_fit_no_order() {
         links: 8,
         store: 2 * table.len(),
     };
-    let (mut checked, told) = reads::read(room, &table, &mut numbers);
+    let (mut checked, told) = reads::read(Scope::Single, room, &table, &mut numbers);
     assert_eq!(told.number, 0);
-    let packed = reads::packed(&mut checked, room, &table, &told, &mut numbers);
+    let packed = reads::packed(
+        Scope::Single,
+        &mut checked,
+        room,
+        &table,
+        &told,
+        &mut numbers,
+    );
     assert_eq!((packed, checked.pair.told[11]), (None, 1));
 }
 
@@ -47,10 +55,17 @@ fn the_longest_subtable_is_read_and_the_next_is_told_16() {
     for (substitutes, number) in [(MOST, 0), (MOST + 1, 16)] {
         let table = crafted::wide(substitutes, &mut numbers);
         let room = room(&table, &mut numbers);
-        let (mut checked, told) = reads::read(room, &table, &mut numbers);
+        let (mut checked, told) = reads::read(Scope::Single, room, &table, &mut numbers);
         assert_eq!(told.number, number);
         if number == 0 {
-            let packed = reads::packed(&mut checked, room, &table, &told, &mut numbers);
+            let packed = reads::packed(
+                Scope::Single,
+                &mut checked,
+                room,
+                &table,
+                &told,
+                &mut numbers,
+            );
             assert!(packed.is_some());
         }
     }
@@ -71,8 +86,8 @@ fn long_subtables_are_told_16() {
         let Room { pieces, links, .. } = room;
         let mut left = Stores::new(room.store, room.layout().need() + 3);
         let mut proved = Proved::new(&left);
-        let told = proved.read_gsub(pieces, links, &table);
-        assert_eq!(told, reads::by_history(room, &table));
+        let told = proved.read_gsub(Scope::Single, (pieces, links), &table);
+        assert_eq!(told, reads::by_history(Scope::Single, room, &table));
         assert_eq!(told.number, 16);
         left.run(&Call::Start { pieces, links });
         assert!(proved.same(&left) && proved.fences_stand());
