@@ -5,7 +5,7 @@
 //! alone.
 
 use crate::timing::microseconds;
-use bindings::{calls, records_need, work_need};
+use compare::lent::Lent;
 use compare::nested::Nested;
 use reference::random::Numbers;
 
@@ -31,16 +31,16 @@ pub fn asked() -> bool {
 }
 
 pub fn print() {
-    let mut lent = Lent::new();
+    let mut lent = Lent::new((OBJECTS, LINKS), STORE);
     let table = Nested::even(LOOKUPS, SUBSTITUTES).laid_out(&mut Numbers::new(1));
-    let length = lent.promote(&table.0);
+    let length = promote(&mut lent, &table.0);
     let packed = lent.out[..length].to_vec();
     let (mut promoted, mut once) = (f64::MAX, f64::MAX);
     for _ in 0..TURNS {
         promoted = promoted.min(microseconds(|| {
-            lent.promote(&table.0);
+            promote(&mut lent, &table.0);
         }));
-        once = once.min(microseconds(|| lent.read_and_pack(&packed)));
+        once = once.min(microseconds(|| read_and_pack(&mut lent, &packed)));
     }
     println!(
         "\n{:<46}{:>12}{:>16}{:>8}\n{:<46}{promoted:>12.1}{once:>16.1}{:>8.1}",
@@ -53,39 +53,16 @@ pub fn print() {
     );
 }
 
-/// Memory that is lent again in every turn.
-struct Lent {
-    store: Vec<u8>,
-    records: Vec<u32>,
-    out: Vec<u8>,
-    work: Vec<u64>,
+/// Gives the packed table's length.
+fn promote(lent: &mut Lent, table: &[u8]) -> usize {
+    let told = lent.promote_gsub(table);
+    assert_eq!((told.number, told.promoted), (0, PROMOTED));
+    told.length as usize
 }
 
-impl Lent {
-    fn new() -> Lent {
-        Lent {
-            store: vec![0; STORE],
-            records: vec![0; records_need(OBJECTS, LINKS)],
-            out: vec![0; STORE],
-            work: vec![0; work_need(OBJECTS, LINKS, 0)],
-        }
-    }
-
-    /// Gives the packed table's length.
-    fn promote(&mut self, table: &[u8]) -> usize {
-        let (store, records) = (&mut self.store, &mut self.records);
-        let (out, work) = (&mut self.out, &mut self.work);
-        let told = calls::promote_gsub(store, records, OBJECTS, LINKS, table, out, work);
-        assert_eq!((told.number, told.promoted), (0, PROMOTED));
-        told.length as usize
-    }
-
-    fn read_and_pack(&mut self, table: &[u8]) {
-        let (store, records) = (&mut self.store, &mut self.records);
-        let (out, work) = (&mut self.out, &mut self.work);
-        let read = calls::read_gsub(store, records, OBJECTS, LINKS, table);
-        assert_eq!(read.number, 0);
-        let packed = calls::pack(store, records, read.id as u32, 0, out, work);
-        assert_eq!((packed.number, packed.length), (0, table.len() as u64));
-    }
+fn read_and_pack(lent: &mut Lent, table: &[u8]) {
+    let read = lent.read_gsub(table);
+    assert_eq!(read.number, 0);
+    let packed = lent.pack(read.id as u32);
+    assert_eq!((packed.number, packed.length), (0, table.len() as u64));
 }

@@ -7,7 +7,8 @@
 //! file it takes the longest ones of outside/compare/gsub.
 
 use crate::timing::{least, microseconds};
-use bindings::{calls, records_need, work_need, GsubPromoted};
+use bindings::{calls, GsubPromoted};
+use compare::lent::Lent;
 use compare::real::{self, Named};
 use plain::build::{Builder, Limits};
 use reference::call::Call;
@@ -53,9 +54,9 @@ pub fn print(files: &[String]) {
         "plain",
         "ratio"
     );
-    let mut lent = Lent::new();
+    let mut lent = Lent::new((OBJECTS, LINKS), STORE);
     for (name, table) in tables(files) {
-        lent.line(&name, &table);
+        line(&mut lent, &name, &table);
     }
 }
 
@@ -70,98 +71,70 @@ fn tables(files: &[String]) -> Vec<Named> {
     tables
 }
 
-/// Memory that is lent again in every turn.
-struct Lent {
-    store: Vec<u8>,
-    records: Vec<u32>,
-    out: Vec<u8>,
-    work: Vec<u64>,
+fn line(lent: &mut Lent, path: &str, table: &[u8]) {
+    let name = Path::new(path).file_name().unwrap_or_default();
+    let name: String = name.to_string_lossy().chars().take(31).collect();
+    let read = lent.read_gsub_whole(table);
+    if read.number != 0 {
+        println!(
+            "{name:<32}{:>8}  refused {} at {}",
+            table.len(),
+            read.number,
+            read.place
+        );
+        return;
+    }
+    let (objects, links) = (read.objects, read.links);
+    let [proved, plain] = reads(lent, table, objects);
+    print!("{name:<32}{:>8}{objects:>8}{links:>7}", table.len());
+    let each = MILLI * proved / table.len() as f64;
+    print_times(proved, plain);
+    print!("{each:>9.1}");
+    match packs(lent, read.id as u32) {
+        Some([proved, plain]) => print_times(proved, plain),
+        None => print!("  {}", promotion(lent, table)),
+    }
+    println!();
 }
 
-impl Lent {
-    fn new() -> Lent {
-        Lent {
-            store: vec![0; STORE],
-            records: vec![0; records_need(OBJECTS, LINKS)],
-            out: vec![0; STORE],
-            work: vec![0; work_need(OBJECTS, LINKS, 0)],
-        }
-    }
+/// Microseconds of a read by both, into as many objects.
+fn reads(lent: &mut Lent, table: &[u8], objects: u64) -> [f64; 2] {
+    let proved = &mut |_: &mut ()| assert_eq!(lent.read_gsub_whole(table).objects, objects);
+    let plain = &mut |_: &mut ()| assert_eq!(plain_read(table), objects);
+    least(TURNS, || (), [proved, plain])
+}
 
-    fn line(&mut self, path: &str, table: &[u8]) {
-        let name = Path::new(path).file_name().unwrap_or_default();
-        let name: String = name.to_string_lossy().chars().take(31).collect();
-        let Lent { store, records, .. } = self;
-        let read = calls::read_gsub_whole(store, records, OBJECTS, LINKS, table);
-        if read.number != 0 {
-            println!(
-                "{name:<32}{:>8}  refused {} at {}",
-                table.len(),
-                read.number,
-                read.place
-            );
-            return;
-        }
-        let (objects, links) = (read.objects, read.links);
-        let [proved, plain] = self.reads(table, objects);
-        print!("{name:<32}{:>8}{objects:>8}{links:>7}", table.len());
-        let each = MILLI * proved / table.len() as f64;
-        print_times(proved, plain);
-        print!("{each:>9.1}");
-        match self.packs(read.id as u32) {
-            Some([proved, plain]) => print_times(proved, plain),
-            None => print!("  {}", self.promotion(table)),
-        }
-        println!();
+/// The same of a pack of what was read, where an order fits.
+fn packs(lent: &mut Lent, root: u32) -> Option<[f64; 2]> {
+    let told = lent.pack(root);
+    if told.number != 0 {
+        return None;
     }
+    let length = told.length as usize;
+    let mut plain_out = vec![0; length];
+    let (store, records) = (&lent.store, &lent.records);
+    let (out, work) = (&mut lent.out, &mut lent.work);
+    let proved = &mut |_: &mut ()| {
+        calls::pack(store, records, root, 0, out, work);
+    };
+    let plain = &mut |_: &mut ()| {
+        let packed = plain::pack(store, records, root, 0, &mut plain_out);
+        assert!(packed.is_ok());
+    };
+    let times = least(TURNS, || (), [proved, plain]);
+    assert!(lent.out[..length] == plain_out);
+    Some(times)
+}
 
-    /// Microseconds of a read by both, into as many objects.
-    fn reads(&mut self, table: &[u8], objects: u64) -> [f64; 2] {
-        let Lent { store, records, .. } = self;
-        let proved = &mut |_: &mut ()| {
-            let told = calls::read_gsub_whole(store, records, OBJECTS, LINKS, table);
-            assert_eq!(told.objects, objects);
-        };
-        let plain = &mut |_: &mut ()| assert_eq!(plain_read(table), objects);
-        least(TURNS, || (), [proved, plain])
-    }
-
-    /// The same of a pack of what was read, where an order fits.
-    fn packs(&mut self, root: u32) -> Option<[f64; 2]> {
-        let (store, records) = (&self.store, &self.records);
-        let (out, work) = (&mut self.out, &mut self.work);
-        let told = calls::pack(store, records, root, 0, out, work);
-        if told.number != 0 {
-            return None;
-        }
-        let length = told.length as usize;
-        let mut plain_out = vec![0; length];
-        let proved = &mut |_: &mut ()| {
-            calls::pack(store, records, root, 0, out, work);
-        };
-        let plain = &mut |_: &mut ()| {
-            let packed = plain::pack(store, records, root, 0, &mut plain_out);
-            assert!(packed.is_ok());
-        };
-        let times = least(TURNS, || (), [proved, plain]);
-        assert!(self.out[..length] == plain_out);
-        Some(times)
-    }
-
-    /// How many lookups are promoted until an order fits, or that none does, and how
-    /// long that takes.
-    fn promotion(&mut self, table: &[u8]) -> String {
-        let (store, records) = (&mut self.store, &mut self.records);
-        let (out, work) = (&mut self.out, &mut self.work);
-        let mut told = GsubPromoted::default();
-        let time = microseconds(|| {
-            told = calls::promote_gsub_whole(store, records, OBJECTS, LINKS, table, out, work);
-        });
-        let time = time / MILLI;
-        match told.number {
-            0 => format!("{} lookups promoted in {time:.1} ms", told.promoted),
-            number => format!("refused {number} in {time:.1} ms"),
-        }
+/// How many lookups are promoted until an order fits, or that none does, and how
+/// long that takes.
+fn promotion(lent: &mut Lent, table: &[u8]) -> String {
+    let mut told = GsubPromoted::default();
+    let time = microseconds(|| told = lent.promote_gsub_whole(table));
+    let time = time / MILLI;
+    match told.number {
+        0 => format!("{} lookups promoted in {time:.1} ms", told.promoted),
+        number => format!("refused {number} in {time:.1} ms"),
     }
 }
 

@@ -77,35 +77,8 @@ pub fn read_gsub(
     link_limit: u32,
     table: &[u8],
 ) -> GsubRead {
-    let (n, r, t) = (store.len(), records.len(), table.len());
-    let (store, records, table) = (store.as_mut_ptr(), records.as_mut_ptr(), table.as_ptr());
-    let (p, l) = (piece_limit, link_limit);
-    unsafe { foreign::scoterlime_read_gsub(store, n, records, r, p, l, table, t) }
-}
-
-/// Reads such a table and packs it, with as few of its last lookups promoted as
-/// an order fits. The work memory is that of a pack without copies.
-pub fn promote_gsub(
-    store: &mut [u8],
-    records: &mut [u32],
-    piece_limit: u32,
-    link_limit: u32,
-    table: &[u8],
-    out: &mut [u8],
-    work: &mut [u64],
-) -> GsubPromoted {
-    let (n, r, t, o, w) = (
-        store.len(),
-        records.len(),
-        table.len(),
-        out.len(),
-        work.len(),
-    );
-    let (store, records, table) = (store.as_mut_ptr(), records.as_mut_ptr(), table.as_ptr());
-    let (p, l, out, work) = (piece_limit, link_limit, out.as_mut_ptr(), work.as_mut_ptr());
-    unsafe {
-        foreign::scoterlime_promote_gsub(store, n, records, r, p, l, table, t, out, o, work, w)
-    }
+    let limits = (piece_limit, link_limit);
+    read_by(foreign::scoterlime_read_gsub, store, records, limits, table)
 }
 
 /// Starts a session and reads a table of any lookups into it.
@@ -116,14 +89,45 @@ pub fn read_gsub_whole(
     link_limit: u32,
     table: &[u8],
 ) -> GsubRead {
-    let (n, r, t) = (store.len(), records.len(), table.len());
-    let (store, records, table) = (store.as_mut_ptr(), records.as_mut_ptr(), table.as_ptr());
-    let (p, l) = (piece_limit, link_limit);
-    unsafe { foreign::scoterlime_read_gsub_whole(store, n, records, r, p, l, table, t) }
+    let limits = (piece_limit, link_limit);
+    read_by(
+        foreign::scoterlime_read_gsub_whole,
+        store,
+        records,
+        limits,
+        table,
+    )
 }
 
-/// Reads a table of any lookups and packs it, with as few of its last lookups promoted as
-/// an order fits. The work memory is that of a pack without copies.
+fn read_by(
+    read: foreign::Read,
+    store: &mut [u8],
+    records: &mut [u32],
+    (p, l): (u32, u32),
+    table: &[u8],
+) -> GsubRead {
+    let (n, r, t) = (store.len(), records.len(), table.len());
+    let (store, records, table) = (store.as_mut_ptr(), records.as_mut_ptr(), table.as_ptr());
+    unsafe { read(store, n, records, r, p, l, table, t) }
+}
+
+/// Reads a table of single substitutions and packs it, with as few of its last
+/// lookups promoted as an order fits. The work memory is that of a pack without
+/// copies.
+pub fn promote_gsub(
+    store: &mut [u8],
+    records: &mut [u32],
+    piece_limit: u32,
+    link_limit: u32,
+    table: &[u8],
+    out: &mut [u8],
+    work: &mut [u64],
+) -> GsubPromoted {
+    let (call, limits) = (foreign::scoterlime_promote_gsub, (piece_limit, link_limit));
+    promote_by(call, store, records, limits, table, out, work)
+}
+
+/// The same of a table of any lookups.
 pub fn promote_gsub_whole(
     store: &mut [u8],
     records: &mut [u32],
@@ -133,20 +137,27 @@ pub fn promote_gsub_whole(
     out: &mut [u8],
     work: &mut [u64],
 ) -> GsubPromoted {
-    let (n, r, t, o, w) = (
-        store.len(),
-        records.len(),
-        table.len(),
-        out.len(),
-        work.len(),
+    let (call, limits) = (
+        foreign::scoterlime_promote_gsub_whole,
+        (piece_limit, link_limit),
     );
+    promote_by(call, store, records, limits, table, out, work)
+}
+
+fn promote_by(
+    promote: foreign::Promote,
+    store: &mut [u8],
+    records: &mut [u32],
+    (p, l): (u32, u32),
+    table: &[u8],
+    out: &mut [u8],
+    work: &mut [u64],
+) -> GsubPromoted {
+    let (n, r, t) = (store.len(), records.len(), table.len());
+    let (o, w) = (out.len(), work.len());
     let (store, records, table) = (store.as_mut_ptr(), records.as_mut_ptr(), table.as_ptr());
-    let (p, l, out, work) = (piece_limit, link_limit, out.as_mut_ptr(), work.as_mut_ptr());
-    unsafe {
-        foreign::scoterlime_promote_gsub_whole(
-            store, n, records, r, p, l, table, t, out, o, work, w,
-        )
-    }
+    let (out, work) = (out.as_mut_ptr(), work.as_mut_ptr());
+    unsafe { promote(store, n, records, r, p, l, table, t, out, o, work, w) }
 }
 
 /// Words of 64 bits that the work memory needs of a batch.

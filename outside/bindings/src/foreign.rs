@@ -2,6 +2,26 @@
 
 use crate::{Answer, Batched, Fed, GsubPromoted, GsubRead, Sent};
 
+/// A read: of single substitutions, or of any lookups.
+pub type Read =
+    unsafe extern "C" fn(*mut u8, usize, *mut u32, usize, u32, u32, *const u8, usize) -> GsubRead;
+
+/// A promotion, of the same.
+pub type Promote = unsafe extern "C" fn(
+    *mut u8,
+    usize,
+    *mut u32,
+    usize,
+    u32,
+    u32,
+    *const u8,
+    usize,
+    *mut u8,
+    usize,
+    *mut u64,
+    usize,
+) -> GsubPromoted;
+
 extern "C" {
     pub fn scoterlime_records_need(piece_limit: u32, link_limit: u32) -> u64;
     pub fn scoterlime_work_need(piece_limit: u32, link_limit: u32, copies: u32) -> u64;

@@ -4,7 +4,8 @@
 //! to the folder under the same name. It prints a line for each: its name, `read` or
 //! `refused`, and what is told; and then how often each kind of table was met.
 
-use bindings::{calls, records_need, work_need, GsubPromoted, GsubRead};
+use bindings::{GsubPromoted, GsubRead};
+use compare::lent::Lent;
 use reference::gsub::reading::promoted;
 use reference::gsub::{Kind, Scope};
 use reference::reading::same;
@@ -17,59 +18,34 @@ const OBJECTS: u32 = 16_384;
 const LINKS: u32 = 65_536;
 const STORE: usize = 1 << 22;
 
-/// Memory that is lent for every table.
-struct Lent {
-    store: Vec<u8>,
-    records: Vec<u32>,
-    out: Vec<u8>,
-    work: Vec<u64>,
-}
-
-impl Lent {
-    fn new() -> Lent {
-        Lent {
-            store: vec![0; STORE],
-            records: vec![0; records_need(OBJECTS, LINKS)],
-            out: vec![0; STORE],
-            work: vec![0; work_need(OBJECTS, LINKS, 0)],
-        }
-    }
-
-    fn read(&mut self, table: &[u8]) -> GsubRead {
-        calls::read_gsub_whole(&mut self.store, &mut self.records, OBJECTS, LINKS, table)
-    }
-
-    /// What is told, and the packed table.
-    fn promote(&mut self, table: &[u8]) -> (GsubPromoted, Vec<u8>) {
-        let (store, records) = (&mut self.store, &mut self.records);
-        let (out, work) = (&mut self.out, &mut self.work);
-        let told = calls::promote_gsub_whole(store, records, OBJECTS, LINKS, table, out, work);
-        let packed = out[..told.length as usize].to_vec();
-        (told, packed)
-    }
+/// What is told, and the packed table.
+fn promote(lent: &mut Lent, table: &[u8]) -> (GsubPromoted, Vec<u8>) {
+    let told = lent.promote_gsub_whole(table);
+    let packed = lent.out[..told.length as usize].to_vec();
+    (told, packed)
 }
 
 /// A table that is read: packed, it reads as it did, with lookups promoted or not,
 /// and packs to itself. Gives the packed one.
 fn tried(lent: &mut Lent, name: &str, table: &[u8]) -> Option<Vec<u8>> {
-    let read = lent.read(table);
+    let read = lent.read_gsub_whole(table);
     if read.number != 0 {
         refused(name, table, read.number, read.place);
         return None;
     }
-    let (told, packed) = lent.promote(table);
+    let (told, packed) = promote(lent, table);
     if told.number != 0 {
         refused(name, table, told.number, told.place);
         return None;
     }
-    let again = lent.read(&packed);
+    let again = lent.read_gsub_whole(&packed);
     let counts = (again.number, again.objects, again.links, again.bytes);
     let expected = (0, told.objects, told.links, told.bytes);
     assert_eq!(counts, expected, "{name}");
     let reading = |table| Scope::Whole.reading(table).expect("it is read");
     let expected = promoted(&reading(table), told.promoted as usize);
     assert!(same(&reading(&packed), &expected), "{name}");
-    assert!(lent.promote(&packed).1 == packed, "{name}");
+    assert!(promote(lent, &packed).1 == packed, "{name}");
     let (before, after) = (table.len(), packed.len());
     let GsubRead { objects, links, .. } = read;
     println!(
@@ -112,7 +88,10 @@ fn called(kind: Kind, place: usize, table: &[u8]) -> String {
 fn main() {
     let mut words = env::args().skip(1);
     let folder = words.next().expect("a folder for the packed tables");
-    let (mut lent, mut met) = (Lent::new(), BTreeMap::<String, usize>::new());
+    let (mut lent, mut met) = (
+        Lent::new((OBJECTS, LINKS), STORE),
+        BTreeMap::<String, usize>::new(),
+    );
     for path in words {
         let table = fs::read(&path).expect("a table");
         let name = Path::new(&path).file_name().expect("a file");

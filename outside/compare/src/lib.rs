@@ -9,7 +9,7 @@
 //!   leave, [`by_id`] orders that differ between these.
 //! * [`tables`], [`whole`] and [`crafted`] make GSUB tables of [`parts`], [`nested`] those that fit no order
 //!   before lookups are promoted, [`real`] has those of fonts, [`spoilt`] damages them, [`reads`] reads
-//!   them, [`promotions`] has their lookups promoted.
+//!   them, [`promotions`] has their lookups promoted, [`lent`] has memory for both.
 //! * [`batches`] has calls as words, [`no_call`] words that are none.
 //! * [`jobs`] has jobs as texts, [`program`] the proved program that runs them, [`frames`] texts of
 //!   frames.
@@ -25,6 +25,7 @@ pub mod frames;
 pub mod groups;
 pub mod jobs;
 pub mod largest;
+pub mod lent;
 pub mod lists;
 pub mod made;
 pub mod met;
