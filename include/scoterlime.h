@@ -159,6 +159,7 @@ scoterlime_promote_answer scoterlime_promote_gsub(uint8_t *store, size_t n, uint
 
 /* As scoterlime_read_gsub, for GSUB tables of versions 1.0 and 1.1 with every lookup type, behind Extensions or not, with feature variations, and with the parameters of 'size',
  * stylistic sets and character variants (docs/RULES.md, section 16).
+ * A table made for it can keep a whole read busy for years in large limits: take a small link limit for tables of strangers (16.7).
  * Refused: the same. */
 scoterlime_read_answer scoterlime_read_gsub_whole(uint8_t *store, size_t n, uint32_t *records, size_t r, uint32_t piece_limit, uint32_t link_limit,
                                                   const uint8_t *table, size_t t);
