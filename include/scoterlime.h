@@ -124,7 +124,6 @@ typedef struct {
 /* Begins a session, whatever the stores held, and writes the GSUB table of t bytes into it, one object for each of its tables, equal ones once: version 1.0,
  * lookups of type 1 and of type 7 whose Extensions lead to type 1, feature parameters and lookup orders none. The root can be packed, and other objects can be written beside it.
  * A table that offsets lead to several times is read each time: the time is not bounded by t alone (docs/RULES.md, 11.12).
- * A read, and each trial of a promotion, takes some 50 KB of stack, where equal objects are looked for.
  * Refused: 13 as start, which changes nothing; then the first of 15, 6, 7, 8 and 16 that is met, which leaves the session as freshly started. */
 scoterlime_read_answer scoterlime_read_gsub(uint8_t *store, size_t n, uint32_t *records, size_t r, uint32_t piece_limit, uint32_t link_limit,
                                             const uint8_t *table, size_t t);

@@ -1,4 +1,6 @@
 // What the calls answer with: ids, counts, refusals.
+#![tactic(auto)]
+
 mod refusals;
 mod tally;
 
@@ -6,18 +8,18 @@ pub use refusals::{named_by, no_table, nowhere, number_of};
 pub use tally::Tally;
 
 // A closed object, numbered from 0 in the order of closing.
-#[derive(Drop)]
+#[derive(Clone, Copy)]
 pub struct ObjectId(pub u32);
 
 // A link whose offset does not fit its field: the object that has the field, the field's place in it, and the offset needed.
-#[derive(Drop)]
+#[derive(Clone, Copy)]
 pub struct Overflow {
     pub parent: ObjectId,
     pub field: usize,
     pub needed: usize,
 }
 
-#[derive(Drop)]
+#[derive(Clone, Copy)]
 pub enum Refusal {
     NothingOpen,
     DepthFull,
@@ -36,21 +38,21 @@ pub enum Refusal {
 }
 
 // Of every call but close and pack.
-#[derive(Drop)]
+#[derive(Clone, Copy)]
 pub enum Answer {
     Done(Tally),
     Refused(Refusal, Tally),
 }
 
 // Of close: the closed object's id.
-#[derive(Drop)]
+#[derive(Clone, Copy)]
 pub enum Closing {
     Done(ObjectId, Tally),
     Refused(Refusal, Tally),
 }
 
 // A table: its length, how many of its objects are copies, and how many it has, copies among them.
-#[derive(Drop)]
+#[derive(Clone, Copy)]
 pub struct PackedTable {
     pub length: usize,
     pub copies: usize,
@@ -58,7 +60,7 @@ pub struct PackedTable {
 }
 
 // Of pack.
-#[derive(Drop)]
+#[derive(Clone, Copy)]
 pub enum Packing {
     Done(PackedTable, Tally),
     Refused(Refusal, Tally),

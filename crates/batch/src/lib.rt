@@ -1,6 +1,8 @@
 // Many calls in one: the calls of a batch on a session in two lent stores, which is tested once.
 //
 // It ends and answers on any memory, and asks nothing of its caller. The other functions do its work on stores that are known to be sound.
+#![tactic(auto)]
+
 ghost use Rattle.std.specs.Prelude.{◌≡◌, true, ◌≤◌, length};
 ghost use Rattle.layout.specs.Known.{Read};
 ghost use Rattle.layout.specs.Sound.{sound};
@@ -19,7 +21,7 @@ use session_tally::tally_sound;
 use soundness::is_sound;
 
 // How the calls ended, how many were carried out, and how many ids were told.
-#[derive(Drop)]
+#[derive(Clone, Copy)]
 struct Ran {
     ending: Ending,
     calls: usize,
@@ -27,7 +29,7 @@ struct Ran {
 }
 
 // The same with the tally.
-#[derive(Drop)]
+#[derive(Clone, Copy)]
 pub struct Batched {
     pub ending: Ending,
     pub tally: Tally,

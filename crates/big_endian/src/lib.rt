@@ -1,4 +1,6 @@
 // Offset fields: written and read the highest byte first, and how much they hold; one function for every width.
+#![tactic(auto)]
+
 ghost use Rattle.std.specs.Prelude.{◌≡◌, ◌+◌, ◌-◌, ◌≤◌, ◌<◌, length};
 ghost use Rattle.lists.specs.Lists.{part, over};
 ghost use Rattle.big_endian.specs.BigEndian.{capacity, big_endian, read_big};

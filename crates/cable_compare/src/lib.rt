@@ -1,5 +1,7 @@
 // A stretch compared with a frame as sending writes it: its lines with the ones that sending writes, but for the data's, whose digits are only looked at
 // as they are read.
+#![tactic(auto)]
+
 ghost use Rattle.std.specs.Prelude.{◌≡◌, ◌+◌, ◌*◌, ◌≤◌, eqb, length};
 ghost use Rattle.lists.specs.Lists.{same_list};
 ghost use Rattle.cable_frame.specs.Frame.{frame_size};

@@ -50,7 +50,7 @@ quick-divided r (b ∷ l) h a =
     let k : b < 256 = ltb-true b 256 (and_left (ltb b 256) (are_bytes l) a) in
     let n : b < 2 ^ 32 = omega arith in
     rw (quick-xor 32 r b h, quick-bits 8 (bit_xor r b) (xor_lt 32 r b h n))
-    (quick-divided _ l (byte-below r b h k) (and_right (ltb b 256) (are_bytes l) a))
+    (quick-divided (byte_divided r b) l (byte-below r b h k) (and_right (ltb b 256) (are_bytes l) a))
 
 unfoldable pub quick_crc : List ℕ → ℕ
 quick_crc l = quick_xor 32 (quick_divided mask l) mask

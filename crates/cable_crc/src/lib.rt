@@ -1,5 +1,7 @@
 // CRC-32 as the catalogue of parametrised CRC algorithms lists it (CRC-32/ISO-HDLC). It works byte by byte from a table of remainders; the
 // definition that it is proved against divides bit by bit.
+#![tactic(auto)]
+
 ghost use Rattle.std.specs.Prelude.{◌≡◌};
 ghost use Rattle.cable_crc.specs.Crc.{mask, byte_divided, divided, finished, RightTable};
 

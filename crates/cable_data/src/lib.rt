@@ -1,4 +1,6 @@
 // A frame's data, read and divided in one pass: while a byte waits for the remainder of the one before, the next one's digits are looked up.
+#![tactic(auto)]
+
 ghost use Rattle.std.specs.Prelude.{◌≡◌, ◌*◌, ◌%◌, ◌≤◌, length};
 ghost use Rattle.lists.specs.Lists.{over};
 ghost use Rattle.cable_crc.specs.Crc.{RightTable};
@@ -9,7 +11,7 @@ use cable_crc::{next, remainders};
 use text_hex::{BASE, CHARACTERS, pair_of, value_by, values};
 
 // Whether every character is a hex digit, and the remainder after the bytes.
-#[derive(Drop)]
+#[derive(Clone, Copy)]
 pub struct Pairs {
     pub all: bool,
     pub remainder: u32,

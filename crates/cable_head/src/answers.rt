@@ -5,7 +5,7 @@ ghost use Rattle.cable_head.specs.Feed.{feed_number};
 use cable_judge::answers::Feeding;
 
 // The answer, and how many bytes were taken.
-#[derive(Drop)]
+#[derive(Clone, Copy)]
 pub struct Fed {
     pub answer: Feeding,
     pub taken: usize,

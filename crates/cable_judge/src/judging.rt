@@ -9,7 +9,7 @@ use cable_send::sending::{FRAME, MOST_FRAMES};
 use text::decimal::Number;
 
 // Whether a stretch is the awaited frame; if so the count it tells and how many bytes of data.
-#[derive(Drop)]
+#[derive(Clone, Copy)]
 pub struct Judged {
     pub ok: bool,
     pub count: u64,

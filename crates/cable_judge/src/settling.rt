@@ -8,7 +8,7 @@ use crate::judging::judge;
 use cable_send::sending::FRAME;
 
 // The answer to a stretch, and what is awaited after it.
-#[derive(Drop)]
+#[derive(Clone, Copy)]
 pub struct Settled {
     pub answer: Feeding,
     pub awaited: u64,

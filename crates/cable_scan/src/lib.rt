@@ -1,4 +1,6 @@
 // Where the first stretch of a text ends.
+#![tactic(auto)]
+
 ghost use Rattle.std.specs.Prelude.{◌≡◌, true, ◌≤◌, length};
 ghost use Rattle.lists.specs.Lists.{part};
 ghost use Rattle.cable_scan.specs.Scan.{line_next, line_on, scan_on};
@@ -12,7 +14,7 @@ const AGREED: u64 = 6;
 const DIFFERS: u64 = 7;
 
 // How many bytes were passed, whether a stretch ended with the last of them, and how far the line under way agrees with `check=`.
-#[derive(Drop)]
+#[derive(Clone, Copy)]
 pub struct Scanned {
     pub taken: usize,
     pub ended: bool,

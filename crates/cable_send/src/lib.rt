@@ -1,2 +1,4 @@
 // A whole table sent as frames of text, in lent slices.
+#![tactic(auto)]
+
 pub mod sending;

@@ -16,7 +16,7 @@ pub const MOST_FRAMES: usize = 32768;
 const MOST_BYTES: usize = MOST_FRAMES * FRAME;
 
 // The text's length, or why there is none.
-#[derive(Drop)]
+#[derive(Clone, Copy)]
 pub enum Sending {
     Done(usize),
     Refused(Refusal),

@@ -2,6 +2,8 @@
 //
 // Each is one proved call and its answer turned into numbers. None asks anything of the lent memory's contents; that a pointer is good for
 // its length, and that lent areas do not overlap, is the caller's part.
+#![tactic(auto)]
+
 mod batching;
 mod cable;
 mod calls;

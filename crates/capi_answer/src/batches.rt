@@ -7,7 +7,7 @@ use batch::Batched;
 use session_batch_turn::end_number;
 
 #[repr(C)]
-#[derive(Drop)]
+#[derive(Clone, Copy)]
 pub struct BatchNumbers {
     pub number: u64,
     pub bytes: u64,

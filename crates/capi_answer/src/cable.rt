@@ -9,14 +9,14 @@ use cable_judge::answers::Feeding;
 use cable_send::sending::Sending;
 
 #[repr(C)]
-#[derive(Drop)]
+#[derive(Clone, Copy)]
 pub struct SentNumbers {
     pub number: u64,
     pub length: u64,
 }
 
 #[repr(C)]
-#[derive(Drop)]
+#[derive(Clone, Copy)]
 pub struct FedNumbers {
     pub number: u64,
     pub taken: u64,

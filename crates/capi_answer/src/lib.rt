@@ -1,4 +1,6 @@
 // An answer and a promotion's as twelve numbers, a read's and a batch's as seven, a send's as two and a feed's as four. Values that a call does not have are 0.
+#![tactic(auto)]
+
 mod batches;
 mod cable;
 mod promotes;
@@ -18,7 +20,7 @@ pub use promotes::{PromoteNumbers, tell_promote};
 pub use reads::{ReadNumbers, tell_read};
 
 #[repr(C)]
-#[derive(Drop)]
+#[derive(Clone, Copy)]
 pub struct Numbers {
     pub number: u64,
     pub bytes: u64,

@@ -9,7 +9,7 @@ use gsub_promote::PromoteAnswer;
 use gsub_read::BAD_TABLE;
 
 #[repr(C)]
-#[derive(Drop)]
+#[derive(Clone, Copy)]
 pub struct PromoteNumbers {
     pub number: u64,
     pub bytes: u64,

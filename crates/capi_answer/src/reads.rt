@@ -7,7 +7,7 @@ use answer::{Tally, number_of};
 use gsub_read::{BAD_TABLE, ReadAnswer};
 
 #[repr(C)]
-#[derive(Drop)]
+#[derive(Clone, Copy)]
 pub struct ReadNumbers {
     pub number: u64,
     pub bytes: u64,

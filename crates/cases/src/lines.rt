@@ -1,7 +1,7 @@
 // Lines of input: where one ends, and the numbers and bytes in it.
 ghost use Rattle.std.specs.Prelude.{◌≤◌, length};
 
-#[derive(Drop)]
+#[derive(Clone, Copy)]
 pub struct Four {
     pub first: u32,
     pub second: u32,
@@ -9,7 +9,7 @@ pub struct Four {
     pub fourth: u32,
 }
 
-#[derive(Drop)]
+#[derive(Clone, Copy)]
 pub struct Parsed {
     pub value: u32,
     pub next: usize,

@@ -3,6 +3,8 @@
 // A line is one letter and its arguments: `c` a case's name, `l` behind it the lengths of the two stores lent to the case, `s` start with
 // two limits, `o` open, `p` put with bytes in hex, `f` put of one byte many times, `k` link with width, id and inner start, `e` close, `d` drop,
 // `t` tally, `a` pack with the root's id, the copies allowed and the lengths of the output and the work memory, `v` both stores.
+#![tactic(auto)]
+
 mod calls;
 mod lines;
 mod memory;

@@ -1,4 +1,6 @@
 // Packs one small table through the eight calls, and draws where its offsets lead: a to b and c, and both of these to d.
+#![tactic(auto)]
+
 mod build;
 mod draw;
 

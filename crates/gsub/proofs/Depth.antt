@@ -143,24 +143,19 @@ more_within n m (f ∷ fs) l h = both (rule-more n m f.rule l (and_left (within 
 
 -- ---- one table deeper changes nothing
 
--- a field judged y, of which only a child's ops may differ
-pub same-act : (f g : Kind → ℕ → List Op) (b : List ℕ) (p a w : ℕ) (y : Act) → ((k : Kind) → y ≡ follow k → (q : ℕ) → f k q ≡ g k q) → act_ops f b p a w y ≡ act_ops g b p a w y
-unfolding act_ops
-same-act f g b p a w keep h = refl
-same-act f g b p a w (follow k) h = rw (h k refl (p + value_at b (p + a) w))
-same-act f g b p a w refuse h = refl
-
 module _ (b : List ℕ) where
   module _ (ops_a ops_b : ℕ → Kind → ℕ → List Op) (n p : ℕ) (same : (a : ℕ) (k : Kind) (q : ℕ) → rank k ≤ n → ops_a a k q ≡ ops_b a k q) where
+    same-act : (a : ℕ) (f : Field) → within n f.rule ≡ true → (y : Act) → act b (p + a) f ≡ y → act_ops (ops_a a) b p a f.width y ≡ act_ops (ops_b a) b p a f.width y
+    unfolding act_ops
+    same-act a f h keep e = refl
+    same-act a f h (follow k) e = rw (same a k (p + value_at b (p + a) f.width) (act-within n b (p + a) f k h e))
+    same-act a f h refuse e = refl
+
     same-fields : (fs : List Field) (a : ℕ) → all_within n fs ≡ true → fields_ops ops_a b p a fs ≡ fields_ops ops_b b p a fs
     unfolding fields_ops
     same-fields [] a h = refl
     same-fields (f ∷ fs) a h =
-        let inside = and_left (within n f.rule) _ h in
-        rw (
-          same-act (ops_a a) (ops_b a) b p a f.width (act b (p + a) f) (λ k e q. same a k q (act-within n b (p + a) f k inside e)),
-          same-fields fs (a + f.width) (and_right (within n f.rule) _ h),
-        )
+        rw (same-act a f (and_left (within n f.rule) _ h) (act b (p + a) f) refl, same-fields fs (a + f.width) (and_right (within n f.rule) _ h))
 
 -- in any mode, since a table has the fields of its kind in each
 pub mode-deeper : (n : ℕ) (b : List ℕ) (m : Mode) (k : Kind) (p : ℕ) → rank k ≤ n → mode_ops (suc n) b m k p ≡ mode_ops n b m k p

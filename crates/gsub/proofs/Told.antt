@@ -18,7 +18,7 @@ use Rattle.model.specs.Judge.{Limits, most_open, Verdict, accepted, refused, num
 use Rattle.model.specs.Told.{done_close}
 use Rattle.model.specs.Session.{Needs}
 use Rattle.model.specs.History.{History, begun, counts, innermost_reading, id_of, others, judged, accept, next as chosen, after, tell, id_told, expected}
-use Rattle.model.proofs.Refusals.{tell-number, told-exactly}
+use Rattle.model.proofs.Refusals.{told-exactly}
 use Rattle.model.proofs.Verdicts.{refused-number}
 use Rattle.model.proofs.Closings.{known-closed}
 use Rattle.steps.specs.Runs.{StoreCall, as_call}
@@ -94,9 +94,13 @@ module _ (n : Needs) (store records : ℕ) where
   abbrev call : StoreCall → History → Step History
   call = by_history n store records
 
+  told-by : (v : Verdict) (t u : Tally) (i : ℕ) → (tell v t (done_close i u)).number ≡ number_of v
+  told-by accepted t u i = refl
+  told-by (refused why) t u i = refl
+
   by_tests : (c : StoreCall) (h : History) (ts : List Test) → judged n (as_call store records c) h ≡ verdict ts → Tells ts (call c h).number
   unfolding expected
-  by_tests c h ts e = (told-exactly ts _).only (ap number_of (sym e) ∙ sym (tell-number (judged n (as_call store records c) h) _ _ _))
+  by_tests c h ts e = (told-exactly ts _).only (ap number_of (sym e) ∙ sym (told-by (judged n (as_call store records c) h) _ _ _))
 
   -- what an accepted call leaves
   left_by : (c : StoreCall) (h : History) → (call c h).number ≡ 0 → (call c h).next ≡ accept (as_call store records c) h

@@ -17,13 +17,20 @@ use Rattle.gsub.specs.declared.Rule.{Rule}
 use Rattle.gsub.specs.declared.Rule.TheVariants.{To, ToOrNull}
 use Rattle.gsub.specs.declared.Field.{Field}
 use Rattle.gsub.specs.Tables.{uint16, is, offset16, offset32_or_null, header10, header11, Shape, by_number, formats, often, laid, times, size, fields_of, fields_at, word_at}
-use Rattle.gsub.specs.Ops.{keep, follow, refuse, value_at, feature_at, by_rule, act, Op, act_ops, fields_ops, table_ops}
+use Rattle.gsub.specs.Ops.{Act, keep, follow, refuse, value_at, feature_at, by_rule, act, Op, act_ops, fields_ops, table_ops}
 use Rattle.gsub.specs.Meaning.{deepest}
 use Rattle.gsub.specs.Promote.{last, by_kind, is_last, child_mode, mode_ops, trial_ops}
 use Rattle.gsub.proofs.Plain.{plain-ops}
 use Rattle.gsub.proofs.Settled.{plain_rule}
 use Rattle.gsub.proofs.Again.{plain-kept}
-use Rattle.gsub.proofs.Depth.{led, same-act}
+use Rattle.gsub.proofs.Depth.{led}
+
+-- a field judged y, of which only a child's ops may differ
+same-act : (f g : Kind → ℕ → List Op) (b : List ℕ) (p a w : ℕ) (y : Act) → ((k : Kind) → y ≡ follow k → (q : ℕ) → f k q ≡ g k q) → act_ops f b p a w y ≡ act_ops g b p a w y
+unfolding act_ops
+same-act f g b p a w keep h = refl
+same-act f g b p a w (follow k) h = rw (h k refl (p + value_at b (p + a) w))
+same-act f g b p a w refuse h = refl
 
 -- one that is no offset is not followed
 plain-same : (f g : Kind → ℕ → List Op) (b : List ℕ) (p a : ℕ) (x : Field) → plain_rule x.rule ≡ true → act_ops f b p a x.width (act b (p + a) x) ≡ act_ops g b p a x.width (act b (p + a) x)

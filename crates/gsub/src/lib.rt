@@ -1,17 +1,19 @@
 // A GSUB table read into a session, one object for each of its tables.
+#![tactic(auto)]
+
 mod numbers;
 
 pub use numbers::word_at;
 
 // Which tables are read: version 1.0 with single substitution alone; or versions 1.0 and 1.1 with every lookup type.
-#[derive(Drop)]
+#[derive(Clone, Copy)]
 pub enum Scope {
     Single,
     Whole,
 }
 
 // The parameters that a feature may have.
-#[derive(Drop)]
+#[derive(Clone, Copy)]
 pub enum Params {
     Size,
     StylisticSet,
@@ -20,7 +22,7 @@ pub enum Params {
 
 // The tables of a GSUB table; which format stands there is read from the table itself. A Header and what hangs on lookup types have a scope; a rule set's
 // rules are of glyphs or of classes, which are laid out alike.
-#[derive(Drop)]
+#[derive(Clone, Copy)]
 pub enum Kind {
     Header(Scope),
     ScriptList,
@@ -58,7 +60,7 @@ pub enum Kind {
 
 // What a field may hold: any number; this number alone; an offset to a table; an offset, or zero where there is no table; an offset to a Feature, with the
 // parameters that the tag just before it calls for.
-#[derive(Drop)]
+#[derive(Clone, Copy)]
 pub enum Rule {
     Any,
     Only(usize),
@@ -67,14 +69,14 @@ pub enum Rule {
     ToFeature,
 }
 
-#[derive(Drop)]
+#[derive(Clone, Copy)]
 pub struct Field {
     pub width: usize,
     pub rule: Rule,
 }
 
 // What is done with a field: it is put as it stands; it is followed to a table of this kind; it is refused.
-#[derive(Drop)]
+#[derive(Clone, Copy)]
 pub enum Act {
     Keep,
     Follow(Kind),
@@ -83,20 +85,13 @@ pub enum Act {
 
 // How a table is read: as it stands; as the Header or the LookupList of one whose last lookups, so many, are promoted; as a Lookup that is; as the new
 // Extension, for this lookup type, in front of the subtable at its place.
-#[derive(Drop)]
+#[derive(Clone, Copy)]
 pub enum Mode {
     Plain,
     Last(usize),
     Promoted,
     New(usize),
 }
-
-// The lookup types of single substitution and of an Extension, and the last.
-pub const SINGLE_TYPE: usize = 1;
-
-pub const EXTENSION_TYPE: usize = 7;
-
-pub const LAST_TYPE: usize = 8;
 
 // The bytes of an Extension.
 pub const EXTENSION_SIZE: usize = 8;

@@ -19,11 +19,12 @@ use lib.Dec.{eqb}
 use lib.ListN.{length}
 use Rattle.lists.specs.Lists.{pick, Exactly}
 use Rattle.answer.specs.Number.{number}
+use Rattle.answer.specs.declared.tally.Tally.{Tally}
 use Rattle.answer.specs.declared.Refusal.TheVariants as Refusal
-use Rattle.model.specs.Judge.{Verdict, accepted, refused, number_of}
-use Rattle.model.specs.History.{History, counts, begun, judged, expected}
+use Rattle.model.specs.Judge.{Verdict, accepted, refused}
+use Rattle.model.specs.Told.{done_close}
+use Rattle.model.specs.History.{History, counts, begun, judged, tell, expected}
 use Rattle.model.proofs.Verdicts.{number-range}
-use Rattle.model.proofs.Refusals.{tell-number}
 use Rattle.steps.specs.Steps.{limits_of}
 use Rattle.steps.specs.Runs.{StoreCall, Stores, start, step_on, as_call}
 use Rattle.steps.specs.Mirrored.{Step, by_history}
@@ -70,11 +71,11 @@ module _ (scope : Scope) (b : List ℕ) (objects links : ℕ) (s : Stores) (begi
   -- no call of the eight tells 15
   never-bad : (c : StoreCall) (h : History) → (call c h).number ≡ bad_table → ⊥
   unfolding expected
-  never-bad c h e = let v = judged needs (as_call (length s.bytes) (length s.words) c) h in go v (sym (tell-number v _ _ _) ∙ e)
+  never-bad c h = go (judged needs (as_call (length s.bytes) (length s.words) c) h) _ _ _
     where
-      go : (v : Verdict) → number_of v ≡ bad_table → ⊥
-      go accepted e = omega arith
-      go (refused why) e = true≢false (sym (rw e at (number-range why).1))
+      go : (v : Verdict) (t u : Tally) (i : ℕ) → (tell v t (done_close i u)).number ≡ bad_table → ⊥
+      go accepted t u i e = omega arith
+      go (refused why) t u i e = true≢false (sym (rw e at (number-range why).1))
 
   -- 15 is told with a place exactly where a field that is refused at that place is reached
   pub bad-exactly : (place : ℕ) → Exactly ((told.number ≡ bad_table) × (told.place ≡ place)) (Reaches call (gsub_ops scope b) 0 fresh (stop place))

@@ -11,7 +11,7 @@ use gsub_read::ReadAnswer;
 const OVERFLOW: u64 = 11;
 
 // How many lookups are promoted, the root's id and the table's length; the place of the field that no such table has there; a session refusal.
-#[derive(Drop)]
+#[derive(Clone, Copy)]
 pub enum PromoteAnswer {
     Done(usize, ObjectId, usize, Tally),
     BadTable(usize),

@@ -1,6 +1,8 @@
 // The least number of last lookups of a GSUB table whose promotion packs.
 //
 // It ends and answers on any memory and any table, and asks nothing of its caller. The other functions do its work.
+#![tactic(auto)]
+
 mod answers;
 mod trial;
 

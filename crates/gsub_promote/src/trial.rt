@@ -14,7 +14,7 @@ use pack::pack_sound;
 const COPIES: u32 = 0;
 
 // The trial's answer, with the session as it is to stay; or why the pack was refused, which leaves the table in the session.
-#[derive(Drop)]
+#[derive(Clone, Copy)]
 pub enum Tried {
     Ended(PromoteAnswer),
     Unpacked(Refusal),

@@ -1,6 +1,5 @@
 pub mod Performs
 pub mod Made
-pub mod Slots
 pub mod Loops
 pub mod Restarts
 pub mod Surplus

@@ -1,15 +1,16 @@
 -- The loop over a walk's moves: what is left, done to the stores as they are, is the whole. Before it the header's table is opened.
 use mathlib.Core.Path.{◌≡◌, refl, ap, ◌∙◌}
-use Prim.Native.Nat.{ℕ, ◌≤◌, ◌<◌}
+use Prim.Native.Nat.{ℕ, ◌<◌}
 use mathlib.Core.List.{List, [], ◌∷◌}
+use mathlib.Core.Bool.{true}
 use native.Mathlib.Omega.{arith}
 use denote.Enum.Declared.{tag_of}
 use types.Run.{OneOf, miss}
 use lib.ListN.{length}
 use Rattle.answer.specs.declared.ObjectId.{ObjectId}
+use Rattle.layout.specs.Sound.{sound}
 use Rattle.steps.specs.Runs.{Stores, stores}
 use Rattle.steps.specs.Mirrored.{by_stores}
-use Rattle.session_slots.specs.Close.{Slotting}
 use Rattle.gsub.specs.declared.Scope.{Scope}
 use Rattle.gsub.specs.declared.Kind.{Kind}
 use Rattle.gsub.specs.declared.Kind.TheVariants.{Header}
@@ -25,43 +26,38 @@ use Rattle.gsub_walk.specs.Rest.{rest_of, Standing, MovesBy, begun_at}
 use Rattle.gsub_walk.proofs.Moving.{begun-rest}
 use Rattle.gsub_read.specs.declared.perform.Performed.{Performed}
 use Rattle.gsub_read.specs.declared.perform.Performed.TheVariants.{On, Bad, Refused}
-use Rattle.gsub_read.specs.Perform.{PerformedBy, PerformedIn, ops_of, RanBy}
+use Rattle.gsub_read.specs.Perform.{PerformedBy, ops_of, RanBy}
 use Rattle.gsub_read.specs.Read.{ops_step, read_step}
 use Rattle.gsub_read.specs.contracts.perform.Performed.{the_type}
 use Rattle.gsub_read.proofs.Made.{goes_on, has_ended, all_made, refused-ends}
 
-pub record Walking (b store₀ records₀ slots₀ : List ℕ) (walk₀ : Walk) (last₀ : ObjectId) (store records slots : List ℕ) (walk : Walk) (last : ObjectId) : Type 0 where
+pub record Walking (b store₀ records₀ : List ℕ) (walk₀ : Walk) (last₀ : ObjectId) (store records : List ℕ) (walk : Walk) (last : ObjectId) : Type 0 where
   pub same : perform by_stores (rest_of b walk₀) last₀.0 (stores store₀ records₀) ≡ perform by_stores (rest_of b walk) last.0 (stores store records)
-  pub slotting : Slotting store records slots
+  pub stays : sound store records ≡ true
   pub stands : Standing walk
   pub bytes-kept : length store ≡ length store₀
   pub words-kept : length records ≡ length records₀
-  pub slots_kept : length slots ≡ length slots₀
 
-pub none-walked : {b s r l : List ℕ} {w : Walk} {i : ObjectId} → Slotting s r l → Standing w → Walking b s r l w i s r l w i
-none-walked h k = record { same = refl; slotting = h; stands = k; bytes-kept = refl; words-kept = refl; slots_kept = refl }
+pub none-walked : {b s r : List ℕ} {w : Walk} {i : ObjectId} → sound s r ≡ true → Standing w → Walking b s r w i s r w i
+none-walked h k = record { same = refl; stays = h; stands = k; bytes-kept = refl; words-kept = refl }
 
-module _ {b s₀ r₀ l₀ s r l : List ℕ} {w₀ w : Walk} {i₀ i : ObjectId} (x : Walking b s₀ r₀ l₀ w₀ i₀ s r l w i) where
-  module _ {s' r' l' : List ℕ} (m : Move) (next : Walk) (v : MovesBy b w m next) {q : Performed} (h : PerformedIn (ops_of b m) i.0 (stores s r) q (stores s' r') l') where
-    pub walked_on : (j : ObjectId) → q ≡ On j → length s' ≡ length s → length r' ≡ length r → length l' ≡ length l → Walking b s₀ r₀ l₀ w₀ i₀ s' r' l' next j
-    walked_on j e n k o =
-        let g = goes_on b w next i.0 (stores s r) j (stores s' r') m v (rw e at h.by) in
-        record { same = x.same ∙ g.same; slotting = h.slotting; stands = g.stands; bytes-kept = n ∙ x.bytes-kept; words-kept = k ∙ x.words-kept; slots_kept = o ∙ x.slots_kept }
+module _ {b s₀ r₀ s r : List ℕ} {w₀ w : Walk} {i₀ i : ObjectId} (x : Walking b s₀ r₀ w₀ i₀ s r w i) where
+  module _ {s' r' : List ℕ} (m : Move) (next : Walk) (v : MovesBy b w m next) {q : Performed} (h : PerformedBy (ops_of b m) i.0 (stores s r) q (stores s' r')) where
+    pub walked_on : 0 < w.depth → (j : ObjectId) → q ≡ On j → length s' ≡ length s → length r' ≡ length r → Walking b s₀ r₀ w₀ i₀ s' r' next j
+    walked_on o j e l k =
+        let g = goes_on b w next i.0 (stores s r) j (stores s' r') x.stands o m v (rw e at h) in
+        record { same = x.same ∙ g.same; stays = h.stays; stands = g.stands; bytes-kept = l ∙ x.bytes-kept; words-kept = k ∙ x.words-kept }
 
-    pub walked-less : (j : ObjectId) → q ≡ On j → length (rest_of b next) < length (rest_of b w)
-    walked-less j e = (goes_on b w next i.0 (stores s r) j (stores s' r') m v (rw e at h.by)).less
-
-    -- so that a child's frame has a place
-    pub walked-deep : (j : ObjectId) → q ≡ On j → next.depth ≤ deepest
-    walked-deep j e = (goes_on b w next i.0 (stores s r) j (stores s' r') m v (rw e at h.by)).stands.deep
+    pub walked-less : 0 < w.depth → (j : ObjectId) → q ≡ On j → length (rest_of b next) < length (rest_of b w)
+    walked-less o j e = (goes_on b w next i.0 (stores s r) j (stores s' r') x.stands o m v (rw e at h)).less
 
     pub walk_refused : ((j : ObjectId) → q ≡ On j → ⊥) → RanBy (rest_of b w₀) i₀.0 (stores s₀ r₀) q (stores s' r')
     walk_refused n =
-        let e = has_ended b w next m i.0 (stores s r) q (stores s' r') v h.by n in
+        let e = has_ended b w next m i.0 (stores s r) q (stores s' r') v h n in
         record { ran = x.same ∙ e.ran; stays = e.stays }
 
   pub all-walked : w.depth ≡ 0 → RanBy (rest_of b w₀) i₀.0 (stores s₀ r₀) (On i) (stores s r)
-  all-walked z = let e = all_made b w i (stores s r) z x.slotting.is_sound in record { ran = x.same ∙ e.ran; stays = e.stays }
+  all-walked z = let e = all_made b w i (stores s r) z x.stays in record { ran = x.same ∙ e.ran; stays = e.stays }
 
 -- what came to a refusal
 pub not_on : (q : Performed) → OneOf (1 ∷ 2 ∷ []) (tag_of the_type q) → (j : ObjectId) → q ≡ On j → ⊥

@@ -1,20 +1,23 @@
 -- A walk's moves are its ops.
 use mathlib.Core.Path.{◌≡◌, refl, sym, ap, subst, ◌∙◌}
-use Prim.Native.Nat.{ℕ, ◌+◌, ◌≤◌, ◌<◌}
+use Prim.Native.Nat.{ℕ, suc, ◌+◌, ◌-◌, ◌≤◌, ◌<◌}
 use mathlib.Core.List.{List, [], ◌∷◌, ◌++◌}
-use mathlib.Core.Bool.{true}
+use mathlib.Core.Bool.{Bool, true, false}
 use native.Mathlib.Omega.{arith}
 use lib.ListN.{length}
 use Rattle.answer.specs.declared.ObjectId.{ObjectId}
 use Rattle.layout.specs.Sound.{sound}
 use Rattle.steps.specs.Runs.{Stores}
 use Rattle.steps.specs.Mirrored.{by_stores}
-use Rattle.gsub.specs.Ops.{Op, begin, end, perform}
+use Rattle.gsub.specs.Ops.{Op, begin, end, fields_ops, perform}
+use Rattle.gsub.specs.Meaning.{deepest}
 use Rattle.gsub.specs.Promote.{new_bytes}
 use Rattle.gsub_walk.specs.declared.walk.Walk.{Walk}
+use Rattle.gsub_walk.specs.declared.walk.Frame.{Frame}
 use Rattle.gsub_walk.specs.declared.walk.Move.{Move}
 use Rattle.gsub_walk.specs.declared.walk.Move.TheVariants as Move
-use Rattle.gsub_walk.specs.Rest.{rest_of, Standing, MovesBy}
+use Rattle.gsub_walk.specs.Rest.{bytes_of, place_of, fields_left, child_ops, link_ops, rest, rest_of, Standing, MovesBy}
+use Rattle.gsub_walk.proofs.Stacks.{standing-is}
 use Rattle.gsub_walk.proofs.Moving.{done-rest}
 use Rattle.gsub_read.specs.declared.perform.Performed.{Performed}
 use Rattle.gsub_read.specs.declared.perform.Performed.TheVariants.{On, Bad, Refused}
@@ -26,9 +29,13 @@ module _ (b : List ℕ) {m : Move} where
   pub by_move : {n : Move} {i : ℕ} {s t : Stores} {r : Performed} → m ≡ n → PerformedBy (ops_of b n) i s r t → PerformedBy (ops_of b m) i s r t
   by_move {i = i} {s = s} {t = t} {r = r} e p = subst (λ x. PerformedBy (ops_of b x) i s r t) (sym e) p
 
-  pub stop-performed : (i : ObjectId) {s : Stores} → sound s.bytes s.words ≡ true → (p : ℕ) → m ≡ Move.Stop p → PerformedBy (ops_of b m) i.0 s (Bad p) s
-  unfolding perform
-  stop-performed i h p e = by_move e (record { made = λ ops. refl; stays = h })
+  module _ (i : ObjectId) {s : Stores} (h : sound s.bytes s.words ≡ true) where
+    pub stop-performed : (p : ℕ) → m ≡ Move.Stop p → PerformedBy (ops_of b m) i.0 s (Bad p) s
+    unfolding perform
+    stop-performed p e = by_move e (record { made = λ ops. refl; stays = h })
+
+    pub done-performed : m ≡ Move.Done → PerformedBy (ops_of b m) i.0 s (On i) s
+    done-performed e = by_move e (record { made = λ ops. refl; stays = h })
 
   pub put-ok : (at width : ℕ) → m ≡ Move.Put at width → MoveOk b m → at + width ≤ length b
   unfolding MoveOk
@@ -53,6 +60,7 @@ module _ (b : List ℕ) (w next : Walk) where
   move-ok (Move.Link width) h = h.1
   move-ok Move.End h = tt
   move-ok (Move.Stop p) h = tt
+  move-ok Move.Done h = tt
 
   -- its op is the first of those left
   record Takes (m : Move) : Type 0 where
@@ -67,6 +75,24 @@ module _ (b : List ℕ) (w next : Walk) where
   takes (Move.Link width) h = record { later = _; first = h.0.made }
   takes Move.End h = record { later = _; first = h.made }
   takes (Move.Stop p) h = record { later = h.later; first = h.made }
+  takes Move.Done h = record { later = []; first = h }
+
+-- an open table has its end left
+no_end : (a c : List Op) → a ++ (end ∷ c) ≡ [] → ⊥
+no_end [] c e = let z : ◌≡◌ {A = ℕ} 0 1 = cc in omega arith
+no_end (x ∷ a) c e = let z : ◌≡◌ {A = ℕ} 0 1 = cc in omega arith
+
+some-ops : (back : Bool) (width : ℕ) (a c : List Op) → link_ops back width ++ (a ++ (end ∷ c)) ≡ [] → ⊥
+some-ops true width a c e = let z : ◌≡◌ {A = ℕ} 0 1 = cc in omega arith
+some-ops false width a c e = no_end a c e
+
+rest_some : (b : List ℕ) (n : ℕ) (back : Bool) (f : Frame) (fs : List Frame) → rest b n back (f ∷ fs) ≡ [] → ⊥
+unfolding rest
+rest_some b n back f fs e = some-ops back f.width (fields_ops (child_ops n b f) (bytes_of b f) (place_of f) f.at (fields_left b f)) (rest b (suc n) true fs) e
+
+some-rest : (b : List ℕ) (w : Walk) → Standing w → 0 < w.depth → rest_of b w ≡ [] → ⊥
+unfolding rest_of
+some-rest b w s o e = rest_some b (deepest - w.depth) w.back _ _ (rw (standing-is w s o) at e)
 
 -- ---- the move came to r: the walk goes on, or has ended
 
@@ -87,14 +113,15 @@ module _ (b : List ℕ) (w next : Walk) (i : ℕ) (s : Stores) (j : ObjectId) (t
     less = omega (arith, ap length e);
   }
 
-  pub goes_on : (m : Move) → MovesBy b w m next → PerformedBy (ops_of b m) i s (On j) t → GoesOn b w next i s j t
+  pub goes_on : Standing w → 0 < w.depth → (m : Move) → MovesBy b w m next → PerformedBy (ops_of b m) i s (On j) t → GoesOn b w next i s j t
   unfolding MovesBy
-  goes_on Move.Begin v h = one_less Move.Begin begin refl v.made v.stands h
-  goes_on (Move.Put at width) v h = one_less (Move.Put at width) _ refl v.0.made v.0.stands h
-  goes_on (Move.New at width) v h = one_less (Move.New at width) _ refl v.0.made v.0.stands h
-  goes_on (Move.Link width) v h = one_less (Move.Link width) _ refl v.0.made v.0.stands h
-  goes_on Move.End v h = one_less Move.End end refl v.made v.stands h
-  goes_on (Move.Stop p) v h = absurd (not_stopped b p i s t j h)
+  goes_on k o Move.Begin v h = one_less Move.Begin begin refl v.made v.stands h
+  goes_on k o (Move.Put at width) v h = one_less (Move.Put at width) _ refl v.0.made v.0.stands h
+  goes_on k o (Move.New at width) v h = one_less (Move.New at width) _ refl v.0.made v.0.stands h
+  goes_on k o (Move.Link width) v h = one_less (Move.Link width) _ refl v.0.made v.0.stands h
+  goes_on k o Move.End v h = one_less Move.End end refl v.made v.stands h
+  goes_on k o (Move.Stop p) v h = absurd (not_stopped b p i s t j h)
+  goes_on k o Move.Done v h = absurd (some-rest b w k o v)
 
 -- a refusal ends it
 pub refused-ends : (r : Performed) (ops : List Op) (t : Stores) → ((j : ObjectId) → r ≡ On j → ⊥) → continued r ops t ≡ outcome_of r t

@@ -5,7 +5,6 @@ use mathlib.Core.List.{List}
 use mathlib.Core.Bool.{true}
 use native.Mathlib.Omega.{arith}
 use borrow.Author.Tests.{ne_eqb}
-use lib.ListN.{length}
 use Rattle.answer.specs.Number.{number, no_tally}
 use Rattle.answer.specs.declared.ObjectId.{ObjectId}
 use Rattle.answer.specs.declared.Refusal.{Refusal}
@@ -13,13 +12,10 @@ use Rattle.answer.specs.declared.tally.Tally.{Tally}
 use Rattle.answer.specs.declared.Answer.{Answer}
 use Rattle.answer.specs.declared.Answer.TheVariants as Answer
 use Rattle.model.specs.Told.{Told, told_by}
-use Rattle.model.specs.Session.{Session, started}
 use Rattle.model.proofs.Verdicts.{refused-number}
-use Rattle.layout.specs.Words.{closed_count}
 use Rattle.layout.specs.Sound.{sound}
-use Rattle.steps.specs.Steps.{limits_of, tally_in}
-use Rattle.steps.specs.Runs.{Stores, Left, left, start, step_on, Drawn}
-use Rattle.steps.proofs.Tallies.{count-decode}
+use Rattle.steps.specs.Steps.{tally_in}
+use Rattle.steps.specs.Runs.{Stores, Left, left, start, step_on}
 use Rattle.steps.proofs.Steps.{start-drawn}
 use Rattle.gsub.specs.Ops.{Op}
 use Rattle.gsub_read.specs.declared.perform.Performed.{Performed}
@@ -52,18 +48,10 @@ abbrev left_read : ReadAnswer → Stores → ReadLeft
 left_read r s = read_left (told_by_read r) s.bytes s.words
 
 module _ (objects links : ℕ) (s : Stores) {s₁ : Stores} (a : Answer) (e : left (told_by a) s₁.bytes s₁.words ≡ step_on (start objects links) s) where
-  module _ {k : Tally} (f : a ≡ Answer.Done k) where
-    drawn : Drawn s₁ (started (limits_of objects links s.bytes))
-    drawn =
-        let told : (step_on (start objects links) s).told.number ≡ 0 = ap (λ (l : Left). l.told.number) (sym e) ∙ ap (λ z. (told_by z).number) f in
-        subst (λ (l : Left). Drawn l.stores (started (limits_of objects links s.bytes))) (sym e) (start-drawn objects links s told).drawn
-
-    pub start-sound : sound s₁.bytes s₁.words ≡ true
-    start-sound = drawn.is_sound
-
-    -- nothing is closed yet
-    pub start-empty : closed_count s₁.words ≡ 0
-    start-empty = count-decode s₁.bytes s₁.words ∙ ap (λ (x : Session). length x.closed) drawn.holds
+  pub start-sound : {k : Tally} → a ≡ Answer.Done k → sound s₁.bytes s₁.words ≡ true
+  start-sound f =
+      let told : (step_on (start objects links) s).told.number ≡ 0 = ap (λ (l : Left). l.told.number) (sym e) ∙ ap (λ z. (told_by z).number) f in
+      subst (λ (l : Left). sound l.stores.bytes l.stores.words ≡ true) (sym e) (start-drawn objects links s told).drawn.is_sound
 
   module _ (ops : List Op) where
     begun-by : ops_step ops objects links s ≡ begun_step ops objects links (told_by a).number s₁

@@ -10,10 +10,9 @@ use Rattle.steps.specs.Runs.{Stores}
 use Rattle.steps.specs.Mirrored.{by_stores}
 use Rattle.gsub.specs.Ops.{bad_table, Op, begin, put, link, end, stop, Outcome, outcome, perform}
 use Rattle.gsub.specs.Promote.{new_bytes}
-use Rattle.session_slots.specs.Close.{Slotting}
 use Rattle.gsub_walk.specs.declared.walk.Move.{Move}
 use Rattle.gsub_walk.specs.declared.walk.Move.TheVariants as Move
-use Rattle.gsub_numbers.specs.Numbers.{most_width}
+use Rattle.gsub_rows.specs.Fields.{most_width}
 use Rattle.gsub_read.specs.declared.perform.Performed.{Performed}
 use Rattle.gsub_read.specs.declared.perform.Performed.TheVariants.{On, Bad, Refused}
 
@@ -38,11 +37,6 @@ pub record PerformedBy (some : List Op) (i : ℕ) (s : Stores) (r : Performed) (
   pub made : (ops : List Op) → perform by_stores (some ++ ops) i s ≡ continued r ops t
   pub stays : sound t.bytes t.words ≡ true
 
--- and the slots m of the closed objects are right then
-pub record PerformedIn (some : List Op) (i : ℕ) (s : Stores) (r : Performed) (t : Stores) (m : List ℕ) : Type 0 where
-  pub by : PerformedBy some i s r t
-  pub slotting : Slotting t.bytes t.words m
-
 -- ---- the moves of a walk through b
 
 abbrev pub ops_of : List ℕ → Move → List Op
@@ -52,6 +46,7 @@ ops_of b (Move.New at width) = put (part at (at + width) new_bytes) ∷ []
 ops_of b (Move.Link width) = link width ∷ []
 ops_of b Move.End = end ∷ []
 ops_of b (Move.Stop p) = stop p ∷ []
+ops_of b Move.Done = []
 
 -- what the code of a move leans on
 unfoldable pub MoveOk : List ℕ → Move → Type 0
@@ -61,6 +56,7 @@ MoveOk b (Move.New at width) = at + width ≤ length new_bytes
 MoveOk b (Move.Link width) = width ≤ most_width
 MoveOk b Move.End = Unit {0}
 MoveOk b (Move.Stop p) = Unit {0}
+MoveOk b Move.Done = Unit {0}
 
 -- ops that are made to their end, or to the first refusal
 pub record RanBy (ops : List Op) (i : ℕ) (s : Stores) (r : Performed) (t : Stores) : Type 0 where

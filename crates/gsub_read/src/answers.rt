@@ -9,7 +9,7 @@ use answer::{Answer, ObjectId, Refusal, Tally};
 pub const BAD_TABLE: u64 = 15;
 
 // The root's id; the place of the field that no such table has there; a session refusal.
-#[derive(Drop)]
+#[derive(Clone, Copy)]
 pub enum ReadAnswer {
     Done(ObjectId, Tally),
     BadTable(usize),

@@ -2,6 +2,8 @@
 //
 // It ends and answers on any memory and any table, and asks nothing of its caller. The other functions do its work on stores that are known to
 // be sound.
+#![tactic(auto)]
+
 mod answers;
 mod perform;
 mod run;
@@ -12,7 +14,7 @@ ghost use Rattle.gsub.specs.declared.Scope.TheVariants.{Single, Whole};
 ghost use Rattle.gsub.specs.declared.Kind.TheVariants.{Header};
 ghost use Rattle.gsub.specs.Meaning.{deepest};
 ghost use Rattle.gsub.specs.Promote.{mode_ops};
-ghost use Rattle.gsub_fields.specs.Fields.{Fits};
+ghost use Rattle.gsub_rows.specs.Fields.{Fits};
 ghost use Rattle.gsub_read.specs.Read.{told_by_read, read_left, ops_step, read_step};
 
 use answer::Answer;

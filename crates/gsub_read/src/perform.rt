@@ -3,19 +3,17 @@ ghost use Rattle.std.specs.Prelude.{◌≡◌, true, [], ◌∷◌, ℕ, ◌+◌
 ghost use Rattle.lists.specs.Lists.{part};
 ghost use Rattle.layout.specs.Sound.{sound};
 ghost use Rattle.steps.specs.Runs.{stores};
-ghost use Rattle.session_slots.specs.Close.{Slotting};
 ghost use Rattle.gsub.specs.Ops.{begin as beginOp, put as put_op, link as link_op, end as endOp};
 ghost use Rattle.gsub.specs.Promote.{new_bytes};
-ghost use Rattle.gsub_read.specs.Perform.{after_of, PerformedBy, PerformedIn, ops_of, MoveOk};
+ghost use Rattle.gsub_read.specs.Perform.{after_of, PerformedBy, ops_of, MoveOk};
 
 use answer::{Answer, Closing, ObjectId, Refusal};
 use gsub::NEW;
 use gsub_walk::walk::Move;
-use session::{link_sound, open_sound, put_sound};
-use session_slots::close_slotted;
+use session::{close_sound, link_sound, open_sound, put_sound};
 
 // What moves came to: the id of the object closed last; refusal 15 with its place; a session refusal.
-#[derive(Drop)]
+#[derive(Clone, Copy)]
 pub enum Performed {
     On(ObjectId),
     Bad(usize),
@@ -57,11 +55,11 @@ fn link(store: &[u8], records: &mut [u32], width: u32, last: ObjectId) -> Perfor
 }
 
 // The object closed: its id is the last one then.
-fn end(store: &mut [u8], records: &mut [u32], slots: &mut [u16]) -> Performed
-    requires { Slotting store.old records.old slots.old }
-    ensures { (i : ℕ) → PerformedIn (endOp ∷ []) i (stores store.old records.old) result (stores store.new records.new) slots.new }
+fn end(store: &mut [u8], records: &mut [u32]) -> Performed
+    requires { sound store.old records.old ≡ true }
+    ensures { (i : ℕ) → PerformedBy (endOp ∷ []) i (stores store.old records.old) result (stores store.new records.new) }
 {
-    let a = close_slotted(store, records, slots);
+    let a = close_sound(store, records);
     match a {
         Closing::Done(id, _) => Performed::On(id),
         Closing::Refused(why, _) => Performed::Refused(why),
@@ -88,13 +86,12 @@ fn put_new(
 pub fn perform(
     store: &mut [u8],
     records: &mut [u32],
-    slots: &mut [u16],
     table: &[u8],
     m: Move,
     last: ObjectId,
 ) -> Performed
-    requires { Slotting store.old records.old slots.old × MoveOk table.now m }
-    ensures { PerformedIn (ops_of table.now m) last.0 (stores store.old records.old) result (stores store.new records.new) slots.new }
+    requires { (sound store.old records.old ≡ true) × MoveOk table.now m }
+    ensures { PerformedBy (ops_of table.now m) last.0 (stores store.old records.old) result (stores store.new records.new) }
 {
     match m {
         Move::Begin => begin(store, records, last),
@@ -104,7 +101,8 @@ pub fn perform(
         }
         Move::New(at, width) => put_new(store, records, at, width, last),
         Move::Link(width) => link(store, records, width as u32, last),
-        Move::End => end(store, records, slots),
+        Move::End => end(store, records),
         Move::Stop(p) => Performed::Bad(p),
+        Move::Done => Performed::On(last),
     }
 }

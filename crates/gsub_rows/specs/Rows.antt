@@ -4,7 +4,8 @@ use Rattle.lists.specs.Lists.{pick}
 use Rattle.gsub.specs.declared.Kind.{Kind}
 use Rattle.gsub.specs.declared.Field.{Field}
 use Rattle.gsub.specs.Tables.{Run, Shape, size, shape}
-use Rattle.gsub_numbers.specs.Numbers.{times_of, field_of, most_width}
+use Rattle.gsub_rows.specs.Fields.{most_width}
+use Rattle.gsub_rows.specs.Numbers.{times_of, field_of}
 
 -- ---- a run: how often its fields stand there, how many, of how many bytes; which
 

@@ -2,16 +2,16 @@
 ghost use Rattle.std.specs.Prelude.{ℕ, ◌<◌};
 ghost use Rattle.gsub.specs.declared.Kind.TheVariants.{Header, LookupList, Coverage, ClassDef};
 ghost use Rattle.gsub.specs.Tables.{set_of};
-ghost use Rattle.gsub_numbers.specs.Numbers.{band, kind_of};
+ghost use Rattle.gsub_rows.specs.Numbers.{band, kind_of};
 ghost use Rattle.gsub_rows.specs.Rows.{HasShape, RowOf};
 
-use crate::padding::{one_run, two_runs};
-use gsub::Scope;
-use gsub_numbers::{
+use crate::numbers::{
     FAR_TO_OR_NULL, FEATURE_LIST, FEATURE_VARIATIONS, FORMAT_1, IS_0, IS_1, IS_2, LANG_SYS, LOOKUP,
     LOOKUP_LIST, MANY, NO_RUN, NONE, ONE, Row, Run, SCRIPT, SCRIPT_LIST, SINGLE_FEATURE_LIST,
     SINGLE_LOOKUP, SINGLE_LOOKUP_LIST, TAG, TO, TO_OR_NULL, UINT16,
 };
+use crate::padding::{one_run, two_runs};
+use gsub::Scope;
 
 const SINGLE_HEADER_ROW: [Run; 1] = [
     // majorVersion, minorVersion, scriptListOffset, featureListOffset, lookupListOffset

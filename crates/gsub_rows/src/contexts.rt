@@ -2,12 +2,12 @@
 ghost use Rattle.gsub.specs.declared.Kind.TheVariants.{SequenceContext, ChainedSequenceContext};
 ghost use Rattle.gsub_rows.specs.Rows.{RowOf};
 
-use crate::padding::{three_runs, two_runs};
-use gsub_numbers::{
+use crate::numbers::{
     BY_SECOND, BY_THIRD, CHAINED_SEQUENCE_RULE_SET, CLASS_DEF, COVERAGE, FEWER, FEWER_BY_FIRST,
     FORMAT_1, FORMAT_2, IS_1, IS_2, IS_3, MANY, NONE, ONE, Row, Run, SEQUENCE_RULE_SET, TO,
     TO_OR_NULL, UINT16,
 };
+use crate::padding::{three_runs, two_runs};
 
 // Of backtrack and lookahead glyphs, where there may be none.
 const CLASS_DEF_OR_NULL: u8 = TO_OR_NULL + CLASS_DEF;

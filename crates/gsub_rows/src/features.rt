@@ -2,16 +2,16 @@
 ghost use Rattle.std.specs.Prelude.{ℕ, ◌<◌};
 ghost use Rattle.gsub.specs.declared.Kind.TheVariants.{FeatureList, FeatureWith, FeatureParams};
 ghost use Rattle.gsub.specs.Tables.{offset16_or_null, feature_of};
-ghost use Rattle.gsub_numbers.specs.Numbers.{band, kind_of};
+ghost use Rattle.gsub_rows.specs.Numbers.{band, kind_of};
 ghost use Rattle.gsub_rows.specs.Rows.{HasShape, RowOf};
 
-use crate::padding::{one_run, three_runs, two_runs};
-use gsub::{Params, Scope};
-use gsub_numbers::{
+use crate::numbers::{
     CHARACTER_VARIANT, CONDITION, CONDITION_SET, FAR_TO, FEATURE, FEATURE_OFFSET,
     FEATURE_TABLE_SUBSTITUTION, IS_0, IS_1, MANY, NO_RUN, NONE, ONE, Row, Run, SIZE_PARAMS,
     STYLISTIC_SET, TAG, TO, TO_OR_NULL, UINT16, UINT24,
 };
+use crate::padding::{one_run, three_runs, two_runs};
+use gsub::{Params, Scope};
 
 const SINGLE_FEATURE_LIST_ROW: [Run; 2] = [
     // featureCount

@@ -3,17 +3,19 @@ ghost use Rattle.std.specs.Prelude.{ℕ, ◌<◌};
 ghost use Rattle.gsub.specs.declared.Scope.TheVariants.{Single, Whole};
 ghost use Rattle.gsub.specs.declared.Kind.TheVariants.{Lookup, Extension};
 ghost use Rattle.gsub.specs.Tables.{lookup_of, extension_of};
-ghost use Rattle.gsub_numbers.specs.Numbers.{numbers, band, kind_of};
+ghost use Rattle.gsub_rows.specs.Numbers.{numbers, band, kind_of};
 ghost use Rattle.gsub_rows.specs.Rows.{HasShape, RowOf};
 
-use gsub::{EXTENSION_TYPE, SINGLE_TYPE, Scope};
-use gsub_numbers::{
+use crate::numbers::{
     ALTERNATE_SUBST, CHAINED_SEQUENCE_CONTEXT, EXTENSION, FAR_TO, IF_MARKED, IS_1, IS_2, IS_3,
     IS_4, IS_5, IS_6, IS_7, IS_8, LIGATURE_SUBST, MANY, MULTIPLE_SUBST, NO_RUN, NONE, ONE,
     REVERSE_CHAIN_SINGLE_SUBST, Row, SEQUENCE_CONTEXT, SINGLE_EXTENSION, SINGLE_SUBST, TO, UINT16,
 };
+use gsub::Scope;
 
-// The lookup types between the first and the Extension's.
+// The lookup types.
+const TYPE_1: usize = 1;
+
 const TYPE_2: usize = 2;
 
 const TYPE_3: usize = 3;
@@ -23,6 +25,8 @@ const TYPE_4: usize = 4;
 const TYPE_5: usize = 5;
 
 const TYPE_6: usize = 6;
+
+const TYPE_7: usize = 7;
 
 // A Lookup of this type, whose subtables are of this number.
 fn lookup_of(number: u8, kind: u8) -> Row
@@ -48,7 +52,7 @@ fn lookup_of(number: u8, kind: u8) -> Row
 fn single_lookup_row(number: usize) -> Row
     ensures { RowOf (Lookup Single) number 0 result }
 {
-    if number == SINGLE_TYPE {
+    if number == TYPE_1 {
         return lookup_of(IS_1, SINGLE_SUBST);
     }
     lookup_of(IS_7, SINGLE_EXTENSION)
@@ -58,13 +62,13 @@ fn whole_lookup_row(number: usize) -> Row
     ensures { RowOf (Lookup Whole) number 0 result }
 {
     match number {
-        SINGLE_TYPE => lookup_of(IS_1, SINGLE_SUBST),
+        TYPE_1 => lookup_of(IS_1, SINGLE_SUBST),
         TYPE_2 => lookup_of(IS_2, MULTIPLE_SUBST),
         TYPE_3 => lookup_of(IS_3, ALTERNATE_SUBST),
         TYPE_4 => lookup_of(IS_4, LIGATURE_SUBST),
         TYPE_5 => lookup_of(IS_5, SEQUENCE_CONTEXT),
         TYPE_6 => lookup_of(IS_6, CHAINED_SEQUENCE_CONTEXT),
-        EXTENSION_TYPE => lookup_of(IS_7, EXTENSION),
+        TYPE_7 => lookup_of(IS_7, EXTENSION),
         _ => lookup_of(IS_8, REVERSE_CHAIN_SINGLE_SUBST),
     }
 }
@@ -101,7 +105,7 @@ fn whole_extension_row(number: usize) -> Row
     ensures { RowOf (Extension Whole) 0 number result }
 {
     match number {
-        SINGLE_TYPE => extension_of(IS_1, SINGLE_SUBST),
+        TYPE_1 => extension_of(IS_1, SINGLE_SUBST),
         TYPE_2 => extension_of(IS_2, MULTIPLE_SUBST),
         TYPE_3 => extension_of(IS_3, ALTERNATE_SUBST),
         TYPE_4 => extension_of(IS_4, LIGATURE_SUBST),

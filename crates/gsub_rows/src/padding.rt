@@ -2,7 +2,7 @@
 ghost use Rattle.std.specs.Prelude.{◌≡◌, [], ◌∷◌, get_or, replicate};
 ghost use Rattle.gsub_rows.specs.Rows.{no_run};
 
-use gsub_numbers::{NO_RUN, Row, Run};
+use crate::numbers::{NO_RUN, Row, Run};
 
 pub fn one_run(runs: [Run; 1]) -> Row
     ensures { result ≡ get_or runs 0 [] ∷ replicate 7 no_run }

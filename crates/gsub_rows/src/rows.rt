@@ -13,14 +13,14 @@ use crate::features::{
     FEATURE_VARIATIONS_ROW, feature_list_row, feature_with_row, params_row,
 };
 use crate::lookups::{extension_row, lookup_row};
+use crate::numbers::{
+    ALTERNATE_SET, CHAINED_SEQUENCE_RULE, LIGATURE, LIGATURE_SET, Row, SEQUENCE, SEQUENCE_RULE,
+};
 use crate::padding::{one_run, three_runs, two_runs};
 use crate::substitutions::{
     GLYPH_LIST_ROW, LIGATURE_ROW, REVERSE_CHAIN_SINGLE_SUBST_ROW, covered_list, single_subst_row,
 };
 use gsub::Kind;
-use gsub_numbers::{
-    ALTERNATE_SET, CHAINED_SEQUENCE_RULE, LIGATURE, LIGATURE_SET, Row, SEQUENCE, SEQUENCE_RULE,
-};
 
 // The row of a table of this kind, by the first and second number in it: a version, a format or a lookup type, where there are several.
 pub fn row_of(kind: Kind, first: usize, second: usize) -> Row

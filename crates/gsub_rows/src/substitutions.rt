@@ -2,13 +2,13 @@
 ghost use Rattle.std.specs.Prelude.{◌<◌};
 ghost use Rattle.gsub.specs.declared.Kind.TheVariants.{SingleSubst};
 ghost use Rattle.gsub.specs.Tables.{covered_list};
-ghost use Rattle.gsub_numbers.specs.Numbers.{band, kind_of};
+ghost use Rattle.gsub_rows.specs.Numbers.{band, kind_of};
 ghost use Rattle.gsub_rows.specs.Rows.{HasShape, RowOf};
 
-use crate::padding::{one_run, two_runs};
-use gsub_numbers::{
+use crate::numbers::{
     COVERAGE, FEWER, FORMAT_1, IS_1, IS_2, MANY, NO_RUN, NONE, ONE, Row, Run, TO, UINT16,
 };
+use crate::padding::{one_run, two_runs};
 
 const SINGLE_SUBST_1_ROW: [Run; 1] = [
     // substFormat, coverageOffset, deltaGlyphID

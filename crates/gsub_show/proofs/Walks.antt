@@ -33,3 +33,4 @@ module _ (b : List ℕ) (w next : Walk) where
       go (Move.Link width) h g = gone h.0
       go Move.End h g = gone h
       go (Move.Stop p) h g = absurd g
+      go Move.Done h g = absurd g

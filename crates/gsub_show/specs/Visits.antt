@@ -13,3 +13,4 @@ GoesOn (Move.New at width) (On v) = Unit {0}
 GoesOn (Move.Link width) (On v) = Unit {0}
 GoesOn Move.End (On v) = Unit {0}
 GoesOn (Move.Stop p) (On v) = ⊥
+GoesOn Move.Done (On v) = ⊥

@@ -1,5 +1,7 @@
 // Shows the GSUB table of standard input: its scripts, features and lookups, how many lookups are promoted, what stays of it where equal objects are kept
 // once, and that the packed table, read again, packs to the same bytes and substitutes the same.
+#![tactic(auto)]
+
 mod names;
 mod substitutes;
 mod visits;

@@ -2,7 +2,7 @@
 ghost use Rattle.std.specs.Prelude.{◌≤◌, ◌<◌};
 ghost use Rattle.big_endian.specs.BigEndian.{capacity};
 
-use gsub::{EXTENSION_TYPE, SINGLE_TYPE, word_at};
+use gsub::word_at;
 use gsub_substitute::substitute;
 use report::{text, value};
 
@@ -11,6 +11,11 @@ const LOOKUP_LIST: usize = 8;
 
 // Glyphs are numbers of 16 bits.
 const GLYPHS: usize = 1 << 16;
+
+// The lookup types of single substitution and of an Extension, behind which it may stand.
+const SINGLE: usize = 1;
+
+const EXTENSION: usize = 7;
 
 fn differs(a: u16, b: u16) -> u64
     ensures { result ≤ 1 }
@@ -30,9 +35,9 @@ fn substituted(table: &[u8], lookup: usize) -> u64 {
     n
 }
 
-// Only single substitution is shown glyph by glyph, which may stand behind an Extension.
+// Only single substitution is shown glyph by glyph.
 fn is_single(number: usize) -> bool {
-    number == SINGLE_TYPE || number == EXTENSION_TYPE
+    number == SINGLE || number == EXTENSION
 }
 
 fn show_lookup(table: &[u8], list: usize, lookup: usize)

@@ -2,18 +2,18 @@
 ghost use Rattle.gsub_show.specs.Visits.{GoesOn};
 
 use gsub::{Kind, Mode, Scope};
-use gsub_walk::walk::{Move, begun, opened, step};
+use gsub_walk::walk::{Move, begun, step};
 
 // Counts stay as they are from here on.
 const MOST: u64 = 1 << 32;
 
-#[derive(Drop)]
+#[derive(Clone, Copy)]
 pub struct Visited {
     pub objects: u64,
     pub bytes: u64,
 }
 
-#[derive(Drop)]
+#[derive(Clone, Copy)]
 enum Counted {
     On(Visited),
     Over,
@@ -54,6 +54,7 @@ fn with_move(v: Visited, m: Move) -> Counted
         Move::Link(width) => Counted::On(put(v, width)),
         Move::End => Counted::On(closed(v)),
         Move::Stop(_) => Counted::Over,
+        Move::Done => Counted::Over,
     }
 }
 
@@ -64,27 +65,15 @@ pub fn visits(table: &[u8]) -> Visited {
         bytes: 0,
     };
     while 0 < walk.depth {
-        let d = walk.depth - 1;
-        let f = walk.frames[d];
-        let moved = step(table, f, walk.depth, walk.back);
+        let moved = step(table, walk);
         let m = moved.made;
         let told = with_move(v, m);
         let Counted::On(next) = told else {
             return v;
         };
         v = next;
-        walk.frames[d].index = moved.index;
-        walk.frames[d].at = moved.at;
-        walk.frames[d].width = moved.width;
-        if walk.depth < moved.depth {
-            let e = walk.depth;
-            let mode = moved.mode;
-            let kind = moved.kind;
-            let child = opened(mode, kind, moved.place);
-            walk.frames[e] = child;
-        }
-        walk.depth = moved.depth;
-        walk.back = moved.back;
+        let after = moved.walk;
+        walk = after;
     }
     v
 }

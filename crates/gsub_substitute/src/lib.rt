@@ -1,10 +1,12 @@
 // What a lookup substitutes for a glyph, from the table's bytes alone. A damaged table is no exception: past its end it reads as zeros.
+#![tactic(auto)]
+
 ghost use Rattle.std.specs.Prelude.{◌≡◌, ◌+◌, ◌*◌, ◌≤◌, ◌<◌};
 ghost use Rattle.big_endian.specs.BigEndian.{capacity};
 ghost use Rattle.gsub.specs.Substitute.{in_glyphs, in_ranges, coverage_index, single as singleIn, subtable, type_of, by_subtables, word_from, child_from, far_from, substitute_from};
 ghost use Rattle.gsub_substitute.specs.Found.{index_of, farthest, BySubtable};
 
-use gsub::{EXTENSION_TYPE, SINGLE_TYPE, word_at};
+use gsub::word_at;
 
 // How many numbers a glyph's 16 bits hold.
 const GLYPHS: usize = 1 << 16;
@@ -12,8 +14,13 @@ const GLYPHS: usize = 1 << 16;
 // What the first half of a 32-bit number counts.
 const HIGH: usize = 1 << 16;
 
+// The lookup types of single substitution and of an Extension.
+const SINGLE: usize = 1;
+
+const EXTENSION: usize = 7;
+
 // A glyph's coverage index, or its substitute, where there is one.
-#[derive(Drop)]
+#[derive(Clone, Copy)]
 enum Index {
     None,
     At(usize),
@@ -101,7 +108,7 @@ fn subtable_of(table: &[u8], lookup: usize, i: usize) -> usize
     ensures { (result ≡ subtable (word_from table.now) (child_from table.now) (far_from table.now) lookup i) × (result ≤ farthest) }
 {
     let place = child(table, lookup, 6 + 2 * i);
-    if word_at(table, lookup) == EXTENSION_TYPE {
+    if word_at(table, lookup) == EXTENSION {
         return far_child(table, place, 4);
     }
     place
@@ -114,7 +121,7 @@ fn type_of(table: &[u8], lookup: usize, i: usize) -> usize
 {
     let place = child(table, lookup, 6 + 2 * i);
     let of = word_at(table, lookup);
-    if of == EXTENSION_TYPE {
+    if of == EXTENSION {
         return word_at(table, place + 2);
     }
     of
@@ -125,7 +132,7 @@ fn by_subtable(table: &[u8], lookup: usize, i: usize, glyph: usize) -> Index
     requires { (lookup ≤ 2 * capacity 2) × (i < capacity 2) × (glyph < capacity 2) }
     ensures { BySubtable table.now lookup i glyph result }
 {
-    if type_of(table, lookup, i) != SINGLE_TYPE {
+    if type_of(table, lookup, i) != SINGLE {
         return Index::None;
     }
     let subtable = subtable_of(table, lookup, i);

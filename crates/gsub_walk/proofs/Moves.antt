@@ -1,6 +1,6 @@
 -- The moves of each mode, as the code makes them.
 use mathlib.Core.Path.{◌≡◌, refl, sym, ap, subst, ◌∙◌}
-use Prim.Native.Nat.{ℕ, ◌+◌, ◌*◌, ◌≤◌, ◌<◌, ◌^◌}
+use Prim.Native.Nat.{ℕ, ◌+◌, ◌-◌, ◌*◌, ◌≤◌, ◌<◌, ◌^◌}
 use mathlib.Core.List.{List, [], ◌∷◌}
 use mathlib.Core.Bool.{Bool, true, false, true≢false, ◌&&◌}
 use native.Mathlib.Nat.{add-zero}
@@ -30,14 +30,14 @@ use Rattle.gsub.proofs.Again.{rule-same}
 use Rattle.gsub.proofs.Tags.{no-tag}
 use Rattle.gsub.proofs.Places.{From, Plain as PlainField}
 use Rattle.gsub.proofs.Substitutes.{lookup-type}
-use Rattle.gsub_numbers.specs.Numbers.{most_width}
-use Rattle.gsub_fields.specs.Fields.{farthest, IsLookup, Fits}
+use Rattle.gsub_rows.specs.Fields.{farthest, most_width, Narrow, Found, IsLookup, Fits}
+use Rattle.gsub_rows.specs.declared.fields.Next.TheVariants.{Some}
 use Rattle.gsub_walk.specs.declared.walk.Frame.{Frame}
-use Rattle.gsub_walk.specs.declared.walk.Moved.{Moved}
+use Rattle.gsub_walk.specs.declared.walk.Walk.{Walk}
 use Rattle.gsub_walk.specs.declared.walk.Move.TheVariants as Move
-use Rattle.gsub_walk.specs.Rest.{next_of, bytes_of, place_of, fields_of as fields_in, FrameOk, advanced, Goes, Stops, MovesBy, Steps, stayed, begun_in, NextIs, AsIs}
+use Rattle.gsub_walk.specs.Rest.{bytes_of, place_of, fields_of as fields_in, FrameOk, Standing, advanced, entered, Goes, Stops, MovesBy, NextIs, AsIs}
 use Rattle.gsub_walk.proofs.Values.{value-below}
-use Rattle.gsub_walk.proofs.Moving.{stays, stops, goes_down, stop-stops, put-goes, deep-stops, begin-goes}
+use Rattle.gsub_walk.proofs.Moving.{next-ok, field-narrow, stop-stops, behind-stands, put-goes, deep-stops, begin-goes}
 
 -- ---- a child's mode fits its kind
 
@@ -98,19 +98,19 @@ module _ {b : List ℕ} {f : Frame} (g : Field) where
   as-last n e = record { place_same = rw e; long_same = rw e; bytes_same = rw e; child-same = λ q. rw e; rule-same = λ v. rw e }
 
   -- a Lookup's fields have nothing to do with tags
-  pub as-promoted : f.mode ≡ Promoted → NextIs b f g → (f.index ≡ 0 → ⊥) → AsIs b f g
-  unfolding Fits
-  as-promoted e x n =
-      let l : IsLookup f.kind = rw e at x.ok.fits in
+  pub as-promoted : f.mode ≡ Promoted → FrameOk f → Found (fields_in b f) f.index (Some g) → (f.index ≡ 0 → ⊥) → AsIs b f g
+  unfolding Fits Found
+  as-promoted e k x n =
+      let l : IsLookup f.kind = rw e at k.fits in
       record {
         place_same = rw e;
         long_same = rw e (same_length b f.place);
-        bytes_same = rw e (same-part b f.place (f.place + f.at) (f.place + f.at + g.width) (omega (arith, x.ok.few)));
+        bytes_same = rw e (same-part b f.place (f.place + f.at) (f.place + f.at + g.width) (omega (arith, k.few)));
         child-same = λ q. rw e;
-        rule-same = λ v. rule-same g.rule false _ _ v (no-tag l.scope (λ i. word_at (bytes_of b f) (place_of f + i)) f.index (rw l.same at x.some) (rw l.same at x.found)) (λ t. absurd (true≢false (sym t)));
+        rule-same = λ v. rule-same g.rule false _ _ v (no-tag l.scope (λ i. word_at (bytes_of b f) (place_of f + i)) f.index (rw l.same at x.0) (rw l.same at x.1)) (λ t. absurd (true≢false (sym t)));
       }
 
-module _ {b : List ℕ} {f : Frame} {g : Field} (x : NextIs b f g) (y : AsIs b f g) (short : length b < 2 ^ 63) where
+module _ {b : List ℕ} {w : Walk} {f : Frame} {g : Field} (x : NextIs b w f g) (y : AsIs b f g) (short : length b < 2 ^ 63) where
   abbrev at : ℕ
   at = f.place + f.at
 
@@ -119,25 +119,24 @@ module _ {b : List ℕ} {f : Frame} {g : Field} (x : NextIs b f g) (y : AsIs b f
   act-is = rw (y.rule-same, y.place_same, y.long_same, y.bytes_same)
 
   pub place-fits : f.place + f.at ≤ farthest
-  place-fits = omega (arith, x.ok.near, y.place_same)
+  place-fits = omega (arith, (next-ok x).near, y.place_same)
 
-  module _ {a : Act} (j : a ≡ act b at g) where
+  module _ {a : Act} (i : a ≡ act b at g) where
     judged : {c : Act} → a ≡ c → act (bytes_of b f) (place_of f + f.at) g ≡ c
-    judged h = act-is ∙ sym j ∙ h
+    judged h = act-is ∙ sym i ∙ h
 
     keep-room : a ≡ keep → at + g.width ≤ length b
     keep-room h = act-room b at g (λ r. let z : ◌≡◌ {A = ℕ} 0 1 = cc in omega arith)
 
-    pub put-made : {depth : ℕ} {r : Moved} → a ≡ keep → r ≡ stayed (Move.Put at g.width) (next_of f g.width) depth → Steps b f depth false r
+    pub put-made : {r : Walk} → a ≡ keep → r ≡ advanced w f g.width → MovesBy b w (Move.Put at g.width) r
     unfolding MovesBy
-    put-made h d =
+    put-made h e =
         let room = keep-room h in
-        stays (next_of f g.width) refl _ d (λ w i.
-        let goes = put-goes x i (omega (arith, y.place_same)) (judged h) in
-        (rw (y.place_same, y.bytes_same) at goes, room))
+        let goes = put-goes x (omega (arith, y.place_same)) (judged h) in
+        rw e (rw (y.place_same, y.bytes_same) at goes, room)
 
-    pub refuse-made : {depth : ℕ} {r : Moved} → a ≡ refuse → r ≡ stayed (Move.Stop at) f depth → Steps b f depth false r
-    refuse-made h d = stops at d (λ w i. rw y.place_same at (stop-stops x i (judged h)))
+    pub refuse-made : a ≡ refuse → Stops b w at
+    refuse-made h = rw y.place_same at (stop-stops x (judged h))
 
     module _ {k : Kind} (h : a ≡ follow k) where
       pub follow-room : at + g.width ≤ length b
@@ -146,22 +145,26 @@ module _ {b : List ℕ} {f : Frame} {g : Field} (x : NextIs b f g) (y : AsIs b f
       near : place_of f + f.at + g.width ≤ farthest
       near = omega (arith, follow-room, y.place_same)
 
+      pub enter-stands : {n : Walk} → w.depth < deepest → n ≡ advanced w f g.width → Standing n × (n.depth < deepest)
+      enter-stands l e = rw e (behind-stands x.stands x.inside (next-ok x) (field-narrow x) near, l)
+
       module _ {v : ℕ} (q : v ≡ value_at b at g.width) where
         to_is : place_of f + value_at (bytes_of b f) (place_of f + f.at) g.width ≡ f.place + v
         to_is = rw (y.place_same, y.bytes_same, q)
 
-        pub deep-made : {depth : ℕ} {r : Moved} → deepest ≤ depth → r ≡ stayed (Move.Stop (f.place + v)) f depth → Steps b f depth false r
-        deep-made l d = stops (f.place + v) d (λ w i. subst (λ p. Stops b w p) (y.child-same _ ∙ to_is) (deep-stops x i k (judged h) l))
+        pub deep-made : deepest ≤ w.depth → Stops b w (f.place + v)
+        deep-made l = subst (λ p. Stops b w p) (y.child-same _ ∙ to_is) (deep-stops x k (judged h) l)
 
         module _ (bytes : (i : ℕ) → get_or b i 0 < 256) where
           pub child-near : f.place + v ≤ farthest
-          child-near = omega (arith, value-below b bytes at g.width follow-room, capacity-rises g.width most_width x.narrow.most, q, follow-room)
+          child-near = omega (arith, value-below b bytes at g.width follow-room, capacity-rises g.width most_width (field-narrow x).most, q, follow-room)
 
-          pub begin-made : {m : Mode} {depth : ℕ} {r : Moved} → depth < deepest → m ≡ child_mode b f.mode f.place f.at k (f.place + v) → r ≡ begun_in (next_of f g.width) m k (f.place + v) depth → Steps b f depth false r
-          begin-made {m} l t d =
+          pub begin-made : {m : Mode} {n r : Walk} → w.depth < deepest → m ≡ child_mode b f.mode f.place f.at k (f.place + v) → n ≡ advanced w f g.width → r ≡ entered n m k (f.place + v)
+              → MovesBy b w Move.Begin r
+          unfolding MovesBy
+          begin-made {m} l t e d =
               let fits : Fits m k = rw t (child_fits b bytes f.mode f.place f.at k (f.place + v)) in
-              goes_down (next_of f g.width) refl m k (f.place + v) d (λ w i.
-              begin-goes x i k (judged h) near l (t ∙ ap (λ z. child_mode b f.mode f.place f.at k z) (sym to_is)) (sym (y.child-same _ ∙ to_is)) fits child-near)
+              rw (d, e) (begin-goes x k (judged h) near l (t ∙ ap (λ z. child_mode b f.mode f.place f.at k z) (sym to_is)) (sym (y.child-same _ ∙ to_is)) fits child-near)
 
 -- ---- the type of a promoted Lookup
 
@@ -190,13 +193,14 @@ first_field : (b : List ℕ) (f : Frame) (g : Field) (s : Scope) → f.mode ≡ 
     → get_or (fields_at (changed b f.place) (Lookup s) f.place) 0 uint16 ≡ g
 first_field b f g s m k z h = rw (m, k, z) at h
 
-module _ {b : List ℕ} {f : Frame} {g : Field} (x : NextIs b f g) (m : f.mode ≡ Promoted) (z : f.index ≡ 0) where
+module _ {b : List ℕ} {w : Walk} {f : Frame} {g : Field} (x : NextIs b w f g) (m : f.mode ≡ Promoted) (z : f.index ≡ 0) where
   is-lookup : IsLookup f.kind
   unfolding Fits
-  is-lookup = rw m at x.ok.fits
+  is-lookup = rw m at (next-ok x).fits
 
   field_is : get_or (fields_at (changed b f.place) (Lookup is-lookup.scope) f.place) 0 uint16 ≡ g
-  field_is = first_field b f g is-lookup.scope m is-lookup.same z x.found
+  unfolding Found
+  field_is = first_field b f g is-lookup.scope m is-lookup.same z x.found.1
 
   type-two : g.width ≡ 2
   type-two = ap (λ (t : Field). t.width) (sym field_is) ∙ first_two _ (lookup-type (λ i. word_at (changed b f.place) (f.place + i)) is-lookup.scope)
@@ -205,26 +209,25 @@ module _ {b : List ℕ} {f : Frame} {g : Field} (x : NextIs b f g) (m : f.mode �
   type-is h = sym (type-first b is-lookup.scope f.place h) ∙ field_is
 
   type_at : place_of f + f.at ≡ f.place
-  type_at = rw (m, x.ok.first z) (add-zero f.place)
+  type_at = rw (m, (next-ok x).first z) (add-zero f.place)
 
-  module _ {inside : Bool} (j : inside ≡ leb (f.place + g.width) (length b)) where
+  module _ {inside : Bool} (i : inside ≡ leb (f.place + g.width) (length b)) where
     type-kept : f.place + 2 ≤ length b → act (bytes_of b f) f.place g ≡ keep
     unfolding act by_rule read_from
     type-kept h = rw (m, ← type-is h, same_length b f.place, le-leb (f.place + 2) (length b) h, type-bytes b f.place h)
 
-    pub type-made : {depth : ℕ} {r : Moved} → length b < 2 ^ 63 → inside ≡ true → r ≡ stayed (Move.New type_place g.width) (next_of f g.width) depth → Steps b f depth false r
+    pub type-made : length b < 2 ^ 63 → inside ≡ true → {r : Walk} → r ≡ advanced w f g.width → MovesBy b w (Move.New type_place g.width) r
     unfolding MovesBy
-    type-made short h d =
+    type-made short h e =
         let two = type-two in
-        let room : f.place + 2 ≤ length b = omega (arith, two, leb-true (f.place + g.width) (length b) (sym j ∙ h)) in
+        let room : f.place + 2 ≤ length b = omega (arith, two, leb-true (f.place + g.width) (length b) (sym i ∙ h)) in
+        let goes = put-goes x (omega (arith, type_at, two)) (ap (λ p. act (bytes_of b f) p g) type_at ∙ type-kept room) in
         let same : part (place_of f + f.at) (place_of f + f.at + g.width) (bytes_of b f) ≡ part type_place (type_place + g.width) new_bytes = rw (type_at, two, m) (type-bytes b f.place room) in
-        stays (next_of f g.width) refl _ d (λ w i.
-        let goes = put-goes x i (omega (arith, type_at, two)) (ap (λ p. act (bytes_of b f) p g) type_at ∙ type-kept room) in
-        (subst (λ vs. Goes b w (put vs) (advanced w f g.width)) same goes, omega arith))
+        rw e (subst (λ vs. Goes b w (put vs) (advanced w f g.width)) same goes, omega arith)
 
-    pub type-past : {depth : ℕ} {r : Moved} → inside ≡ false → r ≡ stayed (Move.Stop f.place) f depth → Steps b f depth false r
+    pub type-past : inside ≡ false → Stops b w f.place
     unfolding act
-    type-past h d = stops f.place d (λ w i. rw type_at at (stop-stops x i (rw (type_at, m, same_length b f.place, sym j ∙ h))))
+    type-past h = rw type_at at (stop-stops x (rw (type_at, m, same_length b f.place, sym i ∙ h)))
 
 -- ---- a new Extension
 
@@ -239,32 +242,34 @@ module _ (f : Frame) (g : Field) {type : ℕ} (m : f.mode ≡ New type) where
   pub new-near : FrameOk f → new_at ≤ farthest
   new-near t = rw m at t.near
 
-  module _ {a : Act} (j : a ≡ act new_bytes new_at g) where
+  module _ {a : Act} (i : a ≡ act new_bytes new_at g) where
     new-room : (a ≡ refuse → ⊥) → new_at + g.width ≤ length new_bytes
-    new-room n = act-room new_bytes new_at g (λ r. n (j ∙ r))
+    new-room n = act-room new_bytes new_at g (λ r. n (i ∙ r))
 
     near_new : (a ≡ refuse → ⊥) → place_of f + f.at + g.width ≤ farthest
     near_new n = rw m (omega (arith, new-room n))
 
-    module _ {b : List ℕ} (x : NextIs b f g) where
-      new-judged : {c : Act} → a ≡ c → act (bytes_of b f) (place_of f + f.at) g ≡ c
-      new-judged h = rw m (sym j ∙ h)
+    pub new-enters : {k : Kind} {w n : Walk} → Standing w → 0 < w.depth → FrameOk f → Narrow g → a ≡ follow k → w.depth < deepest → n ≡ advanced w f g.width → Standing n × (n.depth < deepest)
+    new-enters s o t u h l e = rw e (behind-stands s o t u (near_new (λ r. let z : ◌≡◌ {A = ℕ} 0 1 = cc in omega arith)), l)
 
-      pub new-put : {depth : ℕ} {r : Moved} → a ≡ keep → r ≡ stayed (Move.New new_at g.width) (next_of f g.width) depth → Steps b f depth false r
+    module _ {b : List ℕ} {w : Walk} (x : NextIs b w f g) where
+      new-judged : {c : Act} → a ≡ c → act (bytes_of b f) (place_of f + f.at) g ≡ c
+      new-judged h = rw m (sym i ∙ h)
+
+      pub new-put : a ≡ keep → {r : Walk} → r ≡ advanced w f g.width → MovesBy b w (Move.New new_at g.width) r
       unfolding MovesBy
-      new-put h d =
+      new-put h e =
           let n : a ≡ refuse → ⊥ = λ r. let z : ◌≡◌ {A = ℕ} 0 1 = cc in omega arith in
           let same : part (place_of f + f.at) (place_of f + f.at + g.width) (bytes_of b f) ≡ part new_at (new_at + g.width) new_bytes = rw m in
-          stays (next_of f g.width) refl _ d (λ w i. (subst (λ vs. Goes b w (put vs) (advanced w f g.width)) same (put-goes x i (near_new n) (new-judged h)), new-room n))
+          rw e (subst (λ vs. Goes b w (put vs) (advanced w f g.width)) same (put-goes x (near_new n) (new-judged h)), new-room n)
 
-      pub new-stop : {depth : ℕ} {r : Moved} → a ≡ refuse → r ≡ stayed (Move.Stop new_at) f depth → Steps b f depth false r
-      new-stop h d = stops new_at d (λ w i. rw m at (stop-stops x i (new-judged h)))
+      pub new-stop : a ≡ refuse → Stops b w new_at
+      new-stop h = rw m at (stop-stops x (new-judged h))
 
       module _ (k : Kind) (h : a ≡ follow k) where
-        pub new_deep : {depth : ℕ} {r : Moved} → deepest ≤ depth → r ≡ stayed (Move.Stop f.place) f depth → Steps b f depth false r
-        new_deep l d = stops f.place d (λ w i. subst (λ p. Stops b w p) (rw m) (deep-stops x i k (new-judged h) l))
+        pub new_deep : deepest ≤ w.depth → Stops b w f.place
+        new_deep l = subst (λ p. Stops b w p) (rw m) (deep-stops x k (new-judged h) l)
 
-        pub new-begin : {depth : ℕ} {r : Moved} → depth < deepest → r ≡ begun_in (next_of f g.width) Plain k f.place depth → Steps b f depth false r
-        unfolding Fits
-        new-begin l d =
-            goes_down (next_of f g.width) refl Plain k f.place d (λ w i. begin-goes x i k (new-judged h) (near_new (λ r. let z : ◌≡◌ {A = ℕ} 0 1 = cc in omega arith)) l (rw m) (rw m) tt x.ok.begins)
+        pub new-begin : w.depth < deepest → {n r : Walk} → n ≡ advanced w f g.width → r ≡ entered n Plain k f.place → MovesBy b w Move.Begin r
+        unfolding MovesBy Fits
+        new-begin l e d = rw (d, e) (begin-goes x k (new-judged h) (near_new (λ r. let z : ◌≡◌ {A = ℕ} 0 1 = cc in omega arith)) l (rw m) (rw m) tt (next-ok x).begins)

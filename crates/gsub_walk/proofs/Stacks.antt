@@ -5,16 +5,16 @@ use mathlib.Core.List.{List, ◌∷◌}
 use mathlib.Core.Bool.{false}
 use native.Mathlib.Omega.{arith}
 use lib.ListN.{length, get_or, set, length-set}
-use lib.Seq.{get_or-set_same, get_or-set_other, set-set}
+use lib.Seq.{get_or-set_same, get_or-set_other}
 use Rattle.gsub.specs.declared.Kind.{Kind}
 use Rattle.gsub.specs.declared.Mode.{Mode}
 use Rattle.gsub.specs.declared.Mode.TheVariants.{Plain, Last, Promoted, New}
 use Rattle.gsub.specs.Meaning.{deepest}
 use Rattle.gsub.specs.Promote.{place_in}
-use Rattle.gsub_fields.specs.Fields.{farthest, Fits}
+use Rattle.gsub_rows.specs.Fields.{farthest, Fits}
 use Rattle.gsub_walk.specs.declared.walk.Frame.{Frame}
 use Rattle.gsub_walk.specs.declared.walk.Walk.{Walk}
-use Rattle.gsub_walk.specs.Rest.{no_frame, stack, standing, numbered, next_of, frame_of, FrameOk, FramesOk, Standing, advanced, linked, left}
+use Rattle.gsub_walk.specs.Rest.{no_frame, stack, standing, next_of, frame_of, FrameOk, FramesOk, Standing, advanced, linked, left}
 
 stack_set : (l : List Frame) (d e : ℕ) (x : Frame) → e ≤ d → stack (set l d x) e ≡ stack l e
 unfolding stack
@@ -24,26 +24,6 @@ stack_set l d (suc e) x h = rw (get_or-set_other l d e x no_frame (λ q. omega a
 stack_push : (l : List Frame) (d : ℕ) (x : Frame) → d < length l → stack (set l d x) (suc d) ≡ x ∷ stack l d
 unfolding stack
 stack_push l d x h = rw (get_or-set_same l d x no_frame h, stack_set l d d x (omega arith))
-
--- ---- numbers stored one by one
-
-abbrev changed : (Frame → Frame) → ℕ → List Frame → List Frame
-changed by d l = set l d (by (get_or l d no_frame))
-
-abbrev pub renumbered : List Frame → ℕ → ℕ → ℕ → ℕ → List Frame
-renumbered l d index at width =
-    changed (λ f. numbered f f.index f.at width) d
-    (changed (λ f. numbered f f.index at f.width) d
-    (changed (λ f. numbered f index f.at f.width) d l))
-
-changed-again : (by : Frame → Frame) (l : List Frame) (d : ℕ) (x : Frame) → d < length l → changed by d (set l d x) ≡ set l d (by x)
-changed-again by l d x h = ap (λ z. set (set l d x) d (by z)) (get_or-set_same l d x no_frame h) ∙ set-set l d x (by x)
-
-pub renumbered-is : (l : List Frame) (d index at width : ℕ) → d < length l → renumbered l d index at width ≡ set l d (numbered (get_or l d no_frame) index at width)
-renumbered-is l d index at width h =
-    let f = get_or l d no_frame in
-    ap (changed (λ g. numbered g g.index g.at width) d) (changed-again (λ g. numbered g g.index at g.width) l d (numbered f index f.at f.width) h)
-    ∙ changed-again (λ g. numbered g g.index g.at width) l d (numbered f index at f.width) h
 
 module _ (w : Walk) (s : Standing w) (o : 0 < w.depth) where
   abbrev pub top : Frame

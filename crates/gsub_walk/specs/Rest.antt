@@ -1,18 +1,18 @@
 -- What is left to do of a walk: the ops of the open tables' fields, from the innermost out.
-use Rattle.std.specs.Prelude.{◌≡◌, ℕ, zero, suc, ◌+◌, ◌-◌, ◌*◌, ◌≤◌, ◌<◌, List, [], ◌∷◌, ◌++◌, Bool, true, false, length, get_or, drop, set, replicate, ltb}
-use Rattle.lists.specs.Lists.{part, pick}
+use Rattle.std.specs.Prelude.{◌≡◌, ℕ, zero, suc, ◌+◌, ◌-◌, ◌*◌, ◌≤◌, ◌<◌, List, [], ◌∷◌, ◌++◌, Bool, true, false, length, get_or, drop, set, replicate}
+use Rattle.lists.specs.Lists.{part}
 use Rattle.gsub.specs.declared.Scope.TheVariants.{Single}
 use Rattle.gsub.specs.declared.Kind.{Kind}
-use Rattle.gsub.specs.declared.Kind.TheVariants.{Header, ScriptList}
+use Rattle.gsub.specs.declared.Kind.TheVariants.{Header}
 use Rattle.gsub.specs.declared.Field.{Field}
-use Rattle.gsub.specs.Tables.{uint16, fields_at}
+use Rattle.gsub.specs.Tables.{fields_at}
 use Rattle.gsub.specs.declared.Mode.{Mode}
 use Rattle.gsub.specs.declared.Mode.TheVariants.{Plain as plain}
 use Rattle.gsub.specs.Ops.{by_rule, feature_at, Op, begin, put, link, end, stop, fields_ops}
 use Rattle.gsub.specs.Promote.{new_bytes, bytes_in, place_in, child_mode, child_place, mode_ops}
 use Rattle.gsub.specs.Meaning.{deepest}
-use Rattle.gsub_numbers.specs.Numbers.{most_width, Narrow}
-use Rattle.gsub_fields.specs.Fields.{farthest, Fits}
+use Rattle.gsub_rows.specs.declared.fields.Next.TheVariants.{Some}
+use Rattle.gsub_rows.specs.Fields.{farthest, most_width, Found, Fits}
 use Rattle.gsub_walk.specs.declared.walk.Frame.{Frame}
 use Rattle.gsub_walk.specs.declared.walk.Walk.{Walk}
 use Rattle.gsub_walk.specs.declared.walk.Moved.{Moved}
@@ -31,13 +31,9 @@ stack l (suc d) = get_or l d no_frame ∷ stack l d
 abbrev pub standing : Walk → List Frame
 standing w = stack w.frames w.depth
 
--- with other numbers
-abbrev pub numbered : Frame → ℕ → ℕ → ℕ → Frame
-numbered f index at width = record { mode = f.mode; kind = f.kind; place = f.place; index = index; at = at; width = width }
-
 -- behind its next field, of this width
 abbrev pub next_of : Frame → ℕ → Frame
-next_of f width = numbered f (f.index + 1) (f.at + width) width
+next_of f width = record { mode = f.mode; kind = f.kind; place = f.place; index = f.index + 1; at = f.at + width; width = width }
 
 abbrev pub frame_of : Mode → Kind → ℕ → Frame
 frame_of m k p = record { mode = m; kind = k; place = p; index = 0; at = 0; width = 0 }
@@ -126,43 +122,18 @@ MovesBy b w (Move.New at width) next = Goes b w (put (part at (at + width) new_b
 MovesBy b w (Move.Link width) next = Goes b w (link width) next × (width ≤ most_width)
 MovesBy b w Move.End next = Goes b w end next
 MovesBy b w (Move.Stop p) next = Stops b w p
+MovesBy b w Move.Done next = rest_of b w ≡ []
 
--- ---- a step, which is told the innermost table alone
+abbrev pub Moves : List ℕ → Walk → Moved → Type 0
+Moves b w s = MovesBy b w s.made s.walk
 
--- f is the innermost table of w
-pub record IsInnermost (w : Walk) (f : Frame) (depth : ℕ) (back : Bool) : Type 0 where
+-- g is the next field of f, the innermost table
+pub record NextIs (b : List ℕ) (w : Walk) (f : Frame) (g : Field) : Type 0 where
   pub stands : Standing w
   pub inside : 0 < w.depth
-  pub depth_is : w.depth ≡ depth
-  pub back_is : w.back ≡ back
-  pub frame_is : f ≡ get_or w.frames (w.depth - 1) no_frame
-
--- w after a step: its innermost table's numbers changed, and a child's frame pushed where it is deeper now
-abbrev pub moved_on : Walk → Moved → Walk
-moved_on w r =
-    let fs = set w.frames (w.depth - 1) (numbered (get_or w.frames (w.depth - 1) no_frame) r.index r.at r.width) in
-    record { depth = r.depth; back = r.back; frames = pick (ltb w.depth r.depth) (set fs w.depth (frame_of r.mode r.kind r.place)) fs }
-
--- the move is right in every walk whose innermost table is f
-pub record Steps (b : List ℕ) (f : Frame) (depth : ℕ) (back : Bool) (r : Moved) : Type 0 where
-  pub moves : (w : Walk) → IsInnermost w f depth back → MovesBy b w r.made (moved_on w r)
-
--- in the innermost table, which is f then; into a child; out of it
-abbrev pub stayed : Move → Frame → ℕ → Moved
-stayed m f depth = record { made = m; index = f.index; at = f.at; width = f.width; mode = plain; kind = ScriptList; place = 0; depth = depth; back = false }
-
-abbrev pub begun_in : Frame → Mode → Kind → ℕ → ℕ → Moved
-begun_in f m k p depth = record { made = Move.Begin; index = f.index; at = f.at; width = f.width; mode = m; kind = k; place = p; depth = depth + 1; back = false }
-
-abbrev pub closed : Frame → ℕ → Moved
-closed f depth = record { made = Move.End; index = f.index; at = f.at; width = f.width; mode = plain; kind = ScriptList; place = 0; depth = depth - 1; back = true }
-
--- g is the next field of f
-pub record NextIs (b : List ℕ) (f : Frame) (g : Field) : Type 0 where
-  pub ok : FrameOk f
-  pub some : f.index < length (fields_of b f)
-  pub found : get_or (fields_of b f) f.index uint16 ≡ g
-  pub narrow : Narrow g
+  pub forth : w.back ≡ false
+  pub innermost : f ≡ get_or w.frames (w.depth - 1) no_frame
+  pub found : Found (fields_of b f) f.index (Some g)
 
 -- the walk of one table, which is open
 abbrev pub begun_at : Mode → Kind → ℕ → Walk

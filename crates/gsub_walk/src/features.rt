@@ -2,10 +2,10 @@
 ghost use Rattle.std.specs.Prelude.{◌≡◌, ◌&&◌, ◌+◌, ◌≤◌, eqb, leb};
 ghost use Rattle.gsub.specs.Features.{stylistic, variant, size1, size2, is_digit, two_digits, feature_by};
 ghost use Rattle.gsub.specs.Ops.{feature_at};
-ghost use Rattle.gsub_fields.specs.Fields.{farthest};
+ghost use Rattle.gsub_rows.specs.Fields.{farthest};
 
 use gsub::{Kind, Params, word_at};
-use gsub_fields::less;
+use gsub_rows::fields::less;
 
 // A tag is four characters, two in each of its halves.
 const TAG: usize = 4;

@@ -1,8 +1,7 @@
 // One field read and judged.
 ghost use Rattle.std.specs.Prelude.{◌≡◌, ◌+◌, ◌≤◌, length, leb};
 ghost use Rattle.gsub.specs.Ops.{by_rule as actOf, feature_at, act};
-ghost use Rattle.gsub_numbers.specs.Numbers.{Narrow};
-ghost use Rattle.gsub_fields.specs.Fields.{farthest};
+ghost use Rattle.gsub_rows.specs.Fields.{farthest, Narrow};
 
 use crate::features::feature_at;
 use gsub::{Act, Field, Rule};

@@ -4,21 +4,28 @@ ghost use Rattle.lists.specs.Lists.{pick};
 ghost use Rattle.gsub.specs.Tables.{word_at};
 ghost use Rattle.gsub.specs.Promote.{promotes as promotedOf, is_last, child_mode};
 ghost use Rattle.gsub.specs.declared.Mode.TheVariants.{Plain, Promoted};
-ghost use Rattle.gsub_fields.specs.Fields.{farthest};
+ghost use Rattle.gsub_rows.specs.Fields.{farthest};
 
-use gsub::{EXTENSION_TYPE, Kind, LAST_TYPE, Mode, SINGLE_TYPE, Scope, word_at};
-use gsub_fields::less;
+use gsub::{Kind, Mode, Scope, word_at};
+use gsub_rows::fields::less;
+
+// The type of single substitution, the one that is not promoted, and the last.
+const SINGLE: usize = 1;
+
+const EXTENSION: usize = 7;
+
+const LAST_TYPE: usize = 8;
 
 // A lookup of this type is promoted.
 fn promotes(scope: Scope, number: usize) -> bool
     ensures { result ≡ promotedOf scope number }
 {
     match scope {
-        Scope::Single => number == SINGLE_TYPE,
-        Scope::Whole => if number == EXTENSION_TYPE {
+        Scope::Single => number == SINGLE,
+        Scope::Whole => if number == EXTENSION {
             false
         } else {
-            SINGLE_TYPE <= number && number <= LAST_TYPE
+            SINGLE <= number && number <= LAST_TYPE
         },
     }
 }

@@ -1,5 +1,7 @@
 // Takes a table back from the frames of standard input and writes it to standard output, once all of them are in. Each stretch that is not the awaited
 // frame is told on standard error, and so is a table that is not whole at the end. Tables of up to 65,536 bytes find room.
+#![tactic(auto)]
+
 use cable_head::answers::number_of;
 use cable_head::feeding::{feed, is_whole};
 use cable_judge::answers::Feeding;

@@ -1,4 +1,6 @@
 // Runs the job of standard input (docs/RULES.md, section 12) and prints what it comes to: the packed table, or what was refused and of which line.
+#![tactic(auto)]
+
 use job_rules::{Ending, MOST_BYTES, MOST_TEXT};
 use job_run::run_job;
 use report::{print_bytes, text, value};

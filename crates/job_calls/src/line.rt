@@ -18,7 +18,7 @@ use session::{close_sound, link_sound};
 const INNER_START: u32 = 0;
 
 // What a line leads to: the next, with so many ids known; a refusal; or the packing of a root.
-#[derive(Drop)]
+#[derive(Clone, Copy)]
 pub enum Lead {
     On(usize),
     Stop(u64),

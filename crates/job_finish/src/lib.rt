@@ -1,4 +1,6 @@
 // The root packed, once the last line is read.
+#![tactic(auto)]
+
 ghost use Rattle.std.specs.Prelude.{length, drop};
 ghost use Rattle.job_lines.specs.Lines.{cut};
 ghost use Rattle.layout.specs.Decode.{decode};

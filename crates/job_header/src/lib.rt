@@ -1,4 +1,6 @@
 // The three lines of a job's limits.
+#![tactic(auto)]
+
 ghost use Rattle.job_header.specs.Header.{Reads};
 
 use job_items::limit;
@@ -8,7 +10,7 @@ use text::decimal::Number;
 // The number of the third, which starts the session.
 pub const LINKS_LINE: usize = 3;
 
-#[derive(Drop)]
+#[derive(Clone, Copy)]
 pub struct Limits {
     pub bytes: u32,
     pub objects: u32,
@@ -16,7 +18,7 @@ pub struct Limits {
 }
 
 // The limits, and the place behind them; or the line that is not the one due.
-#[derive(Drop)]
+#[derive(Clone, Copy)]
 pub enum Header {
     Read(Limits, usize),
     Breach(usize),

@@ -1,6 +1,8 @@
 // A line of a job, taken apart: `key=value` and a line feed.
 //
 // No function asks anything of its caller: any bytes are a line that says something, or a breach.
+#![tactic(auto)]
+
 ghost use Rattle.std.specs.Prelude.{◌≡◌, eqb};
 ghost use Rattle.lists.specs.Lists.{first_that};
 ghost use Rattle.job_items.specs.Item.{is_line, starts_with, value, limit, pairs, piece_item, comma, link_of, link_item, end_of, end_item, item, is_piece};
@@ -19,7 +21,7 @@ const LINK: [u8; 5] = *b"link=";
 const END: [u8; 4] = *b"end=";
 
 // What the lines behind the limits say.
-#[derive(Drop)]
+#[derive(Clone, Copy)]
 pub enum Item {
     Piece,
     Link(u32, u32),

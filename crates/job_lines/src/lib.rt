@@ -1,20 +1,22 @@
 // A text read line by line: a reader that holds the text and a position. It assumes nothing of what it reads.
 //
 // A line's part has its line feed; the last part has none where the text does not end in one. Past the end every part is empty.
+#![tactic(auto)]
+
 ghost use Rattle.std.specs.Prelude.{◌≡◌, drop};
 ghost use Rattle.job_lines.specs.Lines.{past_line, first_line, between};
 ghost use Rattle.job_lines.specs.Reader.{moved};
 
 pub const LINE_FEED: u8 = b'\n';
 
-#[derive(Drop)]
+#[derive(Clone, Copy)]
 pub struct Lines<'a> {
     pub text: &'a [u8],
     pub at: usize,
 }
 
 // A line's part, and the reader moved on behind it.
-#[derive(Drop)]
+#[derive(Clone, Copy)]
 pub struct Line<'a> {
     pub part: &'a [u8],
     pub rest: Lines<'a>,

@@ -1,4 +1,6 @@
 // The lines of a job behind its limits.
+#![tactic(auto)]
+
 ghost use Rattle.std.specs.Prelude.{◌≡◌, true, [], ◌*◌, ◌≤◌, length};
 ghost use Rattle.layout.specs.Sound.{sound};
 ghost use Rattle.layout.specs.Decode.{decode};
@@ -14,7 +16,7 @@ use job_lines::next_line;
 const PIECE_LINE: usize = LINKS_LINE + 1;
 
 // What the last line that was read leads to, the place behind it, and its number.
-#[derive(Drop)]
+#[derive(Clone, Copy)]
 pub struct Halt {
     pub lead: Lead,
     pub at: usize,

@@ -1,4 +1,5 @@
 // A job: a session's calls as lines of text (docs/RULES.md, section 12). What it comes to, as definitions on the text alone.
+#![tactic(auto)]
 
 // How long a job's text may be.
 pub const MOST_TEXT: usize = 65536;
@@ -14,7 +15,7 @@ pub const MOST_LINKS: u32 = 1024;
 pub const BREACH: u64 = 14;
 
 // The table's length and how many objects are in it; or a refusal's number, and the line that it is told of.
-#[derive(Drop)]
+#[derive(Clone, Copy)]
 pub enum Ending {
     Packed(usize, usize),
     Refused(u64, usize),

@@ -1,4 +1,6 @@
 // A job run (docs/RULES.md, section 12): its text read line by line, the calls of each line made, and the last piece line's object packed.
+#![tactic(auto)]
+
 mod start;
 
 ghost use Rattle.std.specs.Prelude.{◌≡◌, ◌≤◌, length};

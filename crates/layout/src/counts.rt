@@ -6,7 +6,7 @@ ghost use Rattle.layout.specs.Counted.{Counted};
 use crate::words::{CLOSED_COUNT, OBJECT_LIMIT, OPEN_DEPTH, word};
 
 // The limit of objects, and how many are closed and open.
-#[derive(Drop)]
+#[derive(Clone, Copy)]
 pub struct Counts {
     pub objects: usize,
     pub closed: usize,

@@ -7,7 +7,7 @@ ghost use Rattle.layout.specs.Links.{LinkRead, InWords, link_in};
 use crate::words::{set_word, word};
 
 // The field's place in its object, its width, its inner start, and the child's id.
-#[derive(Drop)]
+#[derive(Clone, Copy)]
 pub struct Link {
     pub at: usize,
     pub width: usize,

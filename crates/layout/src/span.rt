@@ -8,7 +8,7 @@ use crate::state::State;
 use crate::words::{BEGINS_AT, ENDS_AT, LINK_BEGINS_AT, LINK_ENDS_AT, word};
 
 // An object's bytes from `from` up to `to`, and its links from number `first` up to number `last`.
-#[derive(Drop)]
+#[derive(Clone, Copy)]
 pub struct Span {
     pub from: usize,
     pub to: usize,

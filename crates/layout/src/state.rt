@@ -8,7 +8,7 @@ use crate::words::{
 };
 
 // The counts, and where open bytes and links end and closed ones begin.
-#[derive(Drop)]
+#[derive(Clone, Copy)]
 pub struct State {
     pub objects: usize,
     pub links: usize,

@@ -1,4 +1,6 @@
 // Bytes copied from one slice to another.
+#![tactic(auto)]
+
 ghost use Rattle.std.specs.Prelude.{◌≡◌, ◌+◌, ◌≤◌, min, length, take, drop};
 ghost use Rattle.lists.specs.Lists.{over};
 

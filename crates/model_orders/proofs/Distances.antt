@@ -18,6 +18,7 @@ use Rattle.model_orders.proofs.Reach.{reached-rooted, reached-first, reached-low
 
 pub in-kids : (l : Link) (ls : List Link) → In l ls → 0 < count l.child (kids_of ls)
 unfolding kids_of count
+in-kids l [] x' = elim x' [ ]
 in-kids l (m ∷ ls) (here e) = let f : l.child ≡ m.child = ap (λ (x : Link). x.child) e in rw f (omega (arith, one_same m.child))
 in-kids l (m ∷ ls) (there i) = omega (arith, in-kids l ls i)
 
@@ -122,6 +123,7 @@ module _ (far : ℕ) (wt : Link → ℕ) where
 
   pub relax-in : (d : ℕ) (l : Link) (ls : List Link) (ds : List ℕ) → Low (length ds) ls → In l ls → get_or (relax far wt d ls ds) l.child far ≤ d + wt l
   unfolding relax step
+  relax-in d l [] ds h x'' = elim x'' [ ]
   relax-in d l (m ∷ ls) ds h (here e) =
       rw e (omega (arith, relax-down d ls (step d m ds) m.child (low-tail d m ls ds h), step-here d m ds m.child (low-head (length ds) m ls h) refl))
   relax-in d l (m ∷ ls) ds h (there i) = relax-in d l ls (step d m ds) (low-tail d m ls ds h) i
@@ -280,6 +282,7 @@ module _ (wt : Link → ℕ) (g : Graph) (nodes : List ℕ) (root : ℕ) (r : Ro
 
   link-heavy : (l : Link) (ls : List Link) → In l ls → wt l ≤ total wt ls
   unfolding total
+  link-heavy l [] x' = elim x' [ ]
   link-heavy l (m ∷ ls) (here e) = let f : wt l ≡ wt m = ap wt e in omega arith
   link-heavy l (m ∷ ls) (there i) = omega (arith, link-heavy l ls i)
 

@@ -35,6 +35,7 @@ slot-room f m k a b = record { after = omega (arith, f.after); inside = omega (a
 -- a field lies inside
 pub field_room : (from n : ℕ) (l : Link) (ls : List Link) → FieldsIn from n ls → In l ls → SlotIn 0 n l.slot
 unfolding FieldsIn
+field_room from n l [] f x'' = elim x'' [ ]
 field_room from n l (m ∷ ls) f (here e) = subst (λ (k : Link). SlotIn 0 n k.slot) (sym e) (slot-room f.0 0 n (omega arith) (le_refl n))
 field_room from n l (m ∷ ls) f (there i) = field_room (m.slot.at + m.slot.width) n l ls f.1 i
 
@@ -96,5 +97,6 @@ module _ (off : Link → ℕ) where
   pub filled_at : (from n : ℕ) (l : Link) (ls : List Link) (bs : List ℕ) → length bs ≡ n → FieldsIn from n ls → In l ls
       → part l.slot.at (l.slot.at + l.slot.width) (filled off ls bs) ≡ big_endian l.slot.width (off l)
   unfolding filled FieldsIn wrote
+  filled_at from n l [] bs e f x3 = elim x3 [ ]
   filled_at from n l (m ∷ ls) bs e f (here q) = rw q (filled-field from n m ls bs e f)
   filled_at from n l (m ∷ ls) bs e f (there i) = filled_at (m.slot.at + m.slot.width) n l ls (wrote m bs) (length-wrote m bs (omega (arith, f.0.inside)) ∙ e) f.1 i

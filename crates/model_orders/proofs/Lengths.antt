@@ -39,6 +39,7 @@ among-has r (s ∷ l) e = go (same_reading r s) refl (among-has r l) e
 
 pub has-among : (r : Reading) (l : List Reading) → Has r l → among r l ≡ true
 unfolding among
+has-among r [] x' = elim x' [ ]
 has-among r (s ∷ l) (Memᴰ.head e) = rw (e, reading-self s)
 has-among r (s ∷ l) (Memᴰ.tail m) = rw (has-among r l m) (or-last (same_reading r s))
   where
@@ -52,6 +53,7 @@ pub data Apart : List Reading → Type 0 where
 
 pub different-has : (s : Reading) (l : List Reading) → Has s l → Has s (different l)
 unfolding different
+different-has s [] h = elim h [ ]
 different-has s (r ∷ l) h = go (among r l) refl (different-has s l) (Memᴰ.cases_cons h)
   where
     go : (b : Bool) → among r l ≡ b → (Has s l → Has s (different l)) → (s ≡ r) ⊎ Has s l → Has s (pick b (different l) (r ∷ different l))
@@ -99,6 +101,7 @@ below-below x y (field t c r) h k = go (below-below x y c) (below-below x y r) (
 
 pub link-below : (ρ : ℕ → Reading) (l : Link) (ls : List Link) (b : List ℕ) → In l ls → Has (ρ l.child) (below (read_links ρ ls b))
 unfolding below read_links
+link-below ρ l [] b x' = elim x' [ ]
 link-below ρ l (m ∷ ls) b (here e) = Memᴰ.head (ap (λ (k : Link). ρ k.child) e)
 link-below ρ l (m ∷ ls) b (there i) = Memᴰ.append_right (ρ m.child ∷ below (ρ m.child)) (link-below ρ l ls b i)
 

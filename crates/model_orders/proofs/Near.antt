@@ -30,6 +30,7 @@ next_or l ls = go (narrow l) refl
 
 link-narrow : (l : Link) (ls : List Link) → In l ls → narrow l ≡ true → 0 < count l.child (narrow_of ls)
 unfolding count
+link-narrow l [] x'' h = elim x'' [ ]
 link-narrow l (m ∷ ls) (here e) h = go (next_or m ls)
   where
     go : Next m ls → 0 < count l.child (narrow_of (m ∷ ls))

@@ -1,5 +1,5 @@
 -- One link of an object led to another child.
-use mathlib.Core.Path.{◌≡◌, refl, ap}
+use mathlib.Core.Path.{◌≡◌, refl, ap, sym, subst}
 use Prim.Native.Nat.{ℕ, suc, ◌+◌, ◌<◌}
 use mathlib.Core.List.{List, [], ◌∷◌}
 use mathlib.Core.Bool.{Bool, true, false}
@@ -32,7 +32,9 @@ module _ (at : ℕ) where
     where
       go : Same l.slot.at at → (Field at ls → 0 < count (child_at at ls) (kids_of ls)) → 0 < count (pick (eqb l.slot.at at) l.child (child_at at ls)) (l.child ∷ kids_of ls)
       go (same _ b _) i = rw b (omega (arith, one_same l.child))
-      go (other n b _) i = rw b (omega (arith, i (field-later n f)))
+      go (other n b _) i =
+          let o : 0 < one (child_at at ls) l.child + count (child_at at ls) (kids_of ls) = omega (arith, i (field-later n f)) in
+          subst (λ (t : Bool). 0 < count (pick t l.child (child_at at ls)) (l.child ∷ kids_of ls)) (sym b) o
 
   pub redirect-count : (y : ℕ) (ls : List Link) → Field at ls → (c : ℕ) → count c (kids_of (redirect at y ls)) + one c (child_at at ls) ≡ count c (kids_of ls) + one c y
   unfolding redirect child_at kids_of count

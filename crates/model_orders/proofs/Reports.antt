@@ -1,5 +1,5 @@
 -- A reported overflow is that of a field of a placed node.
-use mathlib.Core.Path.{◌≡◌, refl, ap, sym, ◌∙◌}
+use mathlib.Core.Path.{◌≡◌, refl, ap, sym, subst, ◌∙◌}
 use Prim.Native.Nat.{ℕ, ◌<◌}
 use mathlib.Core.List.{List, [], ◌∷◌, ◌++◌}
 use mathlib.Core.Bool.{Bool, true, false}
@@ -41,7 +41,7 @@ from-head g place (x ∷ o) u us e = go (unfit_links place x (g.links x)) refl (
     go (v ∷ vs) f i z =
         let q : v ≡ u = cc in
         let r = links-head place x (g.links x) u vs (f ∙ ap (λ (t : Overflow). t ∷ vs) q) in
-        record { placed = rw r.0 (count-here x o); has = rw r.0 r.1 }
+        record { placed = subst (λ (m : ℕ). 0 < count m (x ∷ o)) (sym r.0) (count-here x o); has = rw r.0 r.1 }
 
 pub unfit-head : (g : Graph) (o : List ℕ) (u : Overflow) (us : List Overflow) → unfit g o ≡ u ∷ us → Reported g o u
 unfit-head g o u us e = from-head g (place_of g o) o u us e

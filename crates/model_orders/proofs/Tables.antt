@@ -84,6 +84,7 @@ right-nil (x ∷ a) b e = cc
 
 pub links-fit : (place : ℕ → ℕ) (p : ℕ) (ls : List Link) → unfit_links place p ls ≡ [] → (l : Link) → In l ls → fits l.slot.width (offset place p l) ≡ true
 unfolding unfit_links
+links-fit place p [] e l i = elim i [ ]
 links-fit place p (m ∷ ls) e l i = go (links-fit place p ls) (fits m.slot.width (offset place p m)) refl e i
   where
     go : (unfit_links place p ls ≡ [] → (l : Link) → In l ls → fits l.slot.width (offset place p l) ≡ true) → (b : Bool) → fits m.slot.width (offset place p m) ≡ b

@@ -108,6 +108,8 @@ module _ {S : ℕ → ℕ → Type 0} {content content' : ℕ → List ℕ} (con
       where
         go : (us : List Overflow) → misfits space root w ≡ us → (vs : List Overflow) → misfits space' root' z ≡ vs → Unfits R us vs
             → SameEnd S content content' (resolve space root 0 w) (resolve space' root' 0 z)
+        go [] a (v ∷ vs) b x8 = elim x8 [ ]
+        go (u ∷ us) a [] b x8 = elim x8 [ ]
         go [] a [] b Unfits.none = rw (resolve-placed space root w 0 a, resolve-placed space' root' z 0 b) (placed_same t (order_same t e e'))
         go (u ∷ us) a (v ∷ vs) b (Unfits.more s q) = rw (resolve-spent space root w a, resolve-spent space' root' z b) (failing-same t s)
     resolve_same (suc k) w z R t e e' = go (misfits space root w) refl (misfits space' root' z) refl (misfits-same t e e') (resolve_same k)
@@ -116,6 +118,8 @@ module _ {S : ℕ → ℕ → Type 0} {content content' : ℕ → List ℕ} (con
             → ((w z : Grown) (R : ℕ → ℕ → Type 0) → Twins S root root' w z R → Grew g root w → Grew h root' z
             → SameEnd S content content' (resolve space root k w) (resolve space' root' k z))
             → SameEnd S content content' (resolve space root (suc k) w) (resolve space' root' (suc k) z)
+        go [] a (v ∷ vs) b x10 i = elim x10 [ ]
+        go (u ∷ us) a [] b x9 i = elim x9 [ ]
         go [] a [] b Unfits.none i = rw (resolve-placed space root w (suc k) a, resolve-placed space' root' z (suc k) b) (placed_same t (order_same t e e'))
         go (u ∷ us) a (v ∷ vs) b (Unfits.more s q) i = cut (shared w u) refl
           where

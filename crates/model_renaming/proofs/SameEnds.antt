@@ -59,6 +59,10 @@ module _ {g h : Graph} {n n' root root' : ℕ} (o : Numbered g n) (o' : Numbered
           go : (us : List Overflow) → unfit g (kahn_order g root) ≡ us → (vs : List Overflow) → unfit h (kahn_order h root') ≡ vs → Unfits R us vs
               → (ws : List Overflow) → unfit g (distance_order g root) ≡ ws → (xs : List Overflow) → unfit h (distance_order h root') ≡ xs → Unfits R ws xs
               → SameEnd R content content' (arranged k g n root) (arranged k h n' root')
+          go [] a (_ ∷ _) b x13 ws c xs d t = elim x13 [ ]
+          go (_ ∷ _) a [] b x10 ws c xs d t = elim x10 [ ]
+          go (_ ∷ _) a (_ ∷ _) b (more _ _) [] c (_ ∷ _) d t = elim t [ ]
+          go (_ ∷ _) a (_ ∷ _) b (more _ _) (_ ∷ _) c [] d t = elim t [ ]
           go [] a [] b none ws c xs d t = rw (arranged-kahn k g n root a, arranged-kahn k h n' root' b) (placed_same contents begun kahn-same)
           go (_ ∷ _) a (_ ∷ _) b (more _ _) [] c [] d none =
               rw (arranged-distance k g n root (some-unfit a) c, arranged-distance k h n' root' (some-unfit b) d) (placed_same contents begun distances-same)

@@ -15,7 +15,7 @@ use Rattle.model_orders.proofs.Bags.{Same, same, other, same_or}
 use Rattle.work.specs.Views.{keys_in, key_in, distances_in, spaces_in}
 use Rattle.work.specs.declared.Areas.{Areas}
 use Rattle.order_graph.specs.Graph.{most_nodes}
-use Rattle.order_lower.specs.Lower.{far_away}
+use Rattle.order_survey.specs.Survey.{far_away}
 use Rattle.order_ready.specs.Ready.{most_key}
 use Rattle.order.specs.Try.{key_by, Trying, Keying, Keyed}
 use Rattle.order.specs.declared.By.TheVariants as By

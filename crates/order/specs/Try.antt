@@ -10,8 +10,7 @@ use Rattle.work.specs.Areas.{Apart}
 use Rattle.work.specs.Views.{key_in, order_in, places_in, distances_in, spaces_in}
 use Rattle.work.specs.declared.Areas.{Areas}
 use Rattle.order_graph.specs.Graph.{most_nodes, graph_on, Counted}
-use Rattle.order_lower.specs.Lower.{far_away}
-use Rattle.order_survey.specs.Survey.{Surveyed}
+use Rattle.order_survey.specs.Survey.{far_away, Surveyed}
 use Rattle.order_ready.specs.Ready.{SmallKeys}
 use Rattle.order_place.specs.Place.{OrderIds}
 use Rattle.order_fit.specs.declared.Look.{Look}

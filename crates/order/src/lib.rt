@@ -1,6 +1,8 @@
 // One order of the nodes to place from a root, tried in lent work memory: by its keys, placed, and the first link that does not fit.
 //
 // It knows nothing of sessions: the graph lies in front, and the survey of the root is done.
+#![tactic(auto)]
+
 ghost use Rattle.order.specs.Try.{Keying, Keyed, Trying, Ordered, Tried};
 ghost use Rattle.order.specs.declared.By.TheVariants as By;
 
@@ -13,14 +15,14 @@ use work::Areas;
 const SPACE_WEIGHT: u64 = 4294967296;
 
 // By what the next of the ready nodes is chosen: the longest ready, the nearest, or the nearest of the lowest space.
-#[derive(Drop)]
+#[derive(Clone, Copy)]
 pub enum By {
     Readiness,
     Distance,
     Space,
 }
 
-#[derive(Drop)]
+#[derive(Clone, Copy)]
 pub struct Try {
     pub placed: usize,
     pub look: Look,

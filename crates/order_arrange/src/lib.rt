@@ -1,5 +1,7 @@
 // The orders tried in turn until one fits: the kahn order, the shortest-distance order, the order by spaces; and copies made while the last one does not
 // fit. It knows nothing of sessions: the graph lies in front, its first n nodes are the objects, and the survey of the root is done.
+#![tactic(auto)]
+
 ghost use Rattle.model_orders.specs.Copies.{arranged};
 ghost use Rattle.order_graph.specs.Graph.{graph_on};
 ghost use Rattle.order_resolve.specs.Resolve.{Arranging, Distances, Arranges};

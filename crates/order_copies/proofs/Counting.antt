@@ -17,8 +17,7 @@ use Rattle.work.specs.Views.{incoming_in}
 use Rattle.work.specs.declared.Areas.{Areas}
 use Rattle.order_graph.specs.Graph.{graph_on, Stands}
 use Rattle.order_graph.proofs.Links.{front_kept, stands-kept}
-use Rattle.order_lower.specs.Lower.{far_away}
-use Rattle.order_survey.specs.Survey.{Counting, CountedAll}
+use Rattle.order_survey.specs.Survey.{far_away, Counting, CountedAll}
 use Rattle.order_survey.proofs.Distances.{node-links}
 use Rattle.order_survey.proofs.Lines.{counted-one, counted-at}
 use Rattle.order_copies.specs.Steps.{CountingCopy, CopyCounted}

@@ -11,7 +11,7 @@ use Rattle.work.specs.Packed.{packed_words}
 use Rattle.work.specs.Views.{order_in, incoming_in, spaces_in, origin_in}
 use Rattle.work.specs.declared.Areas.{Areas}
 use Rattle.order_graph.specs.Graph.{graph_on, link_count, most_node_links, Stands, AtNode, Taken, Parted, Owned}
-use Rattle.order_lower.specs.Lower.{far_away}
+use Rattle.order_survey.specs.Survey.{far_away}
 use Rattle.order_place.specs.Place.{OrderIds}
 
 -- a field at this place, of one of these links

@@ -7,7 +7,7 @@ use Rattle.model_orders.specs.Copies.{beside}
 use Rattle.work.specs.Views.{order_in, incoming_in, spaces_in, origins_in, origin_in}
 use Rattle.work.specs.declared.Areas.{Areas}
 use Rattle.order_graph.specs.Graph.{graph_on, link_of, most_node_links, Stands, AtLink}
-use Rattle.order_lower.specs.Lower.{far_away}
+use Rattle.order_survey.specs.Survey.{far_away}
 use Rattle.order_place.specs.Place.{OrderIds}
 
 -- ---- the link whose field is at a place

@@ -1,5 +1,7 @@
 // One copy: the child of a link copied, and that link alone led to the copy. What stands in the work memory beside the graph follows: spaces, origins,
 // the counts of incoming fields, and the order, in which the copy comes right behind its original.
+#![tactic(auto)]
+
 ghost use Rattle.std.specs.Prelude.{◌≡◌, ltb, get_or};
 ghost use Rattle.work.specs.Views.{incoming_in};
 ghost use Rattle.order_copies.specs.Copy.{child_in, AtField, CopyingChild, ChildCopied};
@@ -14,7 +16,7 @@ mod find;
 mod note;
 
 // The copy's size, and how many links are taken with it.
-#[derive(Drop)]
+#[derive(Clone, Copy)]
 pub struct Copied {
     pub size: u64,
     pub links: usize,

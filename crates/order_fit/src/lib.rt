@@ -1,4 +1,6 @@
 // Places, offsets, and the first link that does not fit.
+#![tactic(auto)]
+
 ghost use Rattle.std.specs.Prelude.{◌≡◌, ◌-◌, ◌<◌, get_or};
 ghost use Rattle.order_graph.specs.Graph.{AtNode, graph_on, link_by};
 ghost use Rattle.work.specs.Views.{order_in, places_in};
@@ -9,7 +11,7 @@ use big_endian::capacity;
 use order_graph::{Field, field_at, link_count, object_of};
 use work::Areas;
 
-#[derive(Drop)]
+#[derive(Clone, Copy)]
 pub enum Look {
     Fits,
     Over(Overflow),

@@ -1,4 +1,6 @@
 // Reading the graph in the first words of the work memory.
+#![tactic(auto)]
+
 ghost use Rattle.std.specs.Prelude.{◌≡◌, ◌+◌, ◌*◌, ◌≤◌, ◌<◌, take};
 ghost use Rattle.work.specs.Packed.{packed_words};
 ghost use Rattle.work.specs.Views.{origin_in};
@@ -9,7 +11,7 @@ use big_endian::capacity;
 use work::{Areas, MOST_HALF, PACKED_WORDS};
 
 // A link: its field's place and width, and the child.
-#[derive(Drop)]
+#[derive(Clone, Copy)]
 pub struct Field {
     pub at: usize,
     pub width: usize,
@@ -18,7 +20,7 @@ pub struct Field {
 }
 
 // A link's child and weight.
-#[derive(Drop)]
+#[derive(Clone, Copy)]
 pub struct Edge {
     pub child: usize,
     pub weight: u64,

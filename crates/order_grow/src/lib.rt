@@ -1,4 +1,6 @@
 // The graph grown by one node.
+#![tactic(auto)]
+
 ghost use Rattle.std.specs.Prelude.{◌≡◌, ◌≤◌, ◌<◌, length};
 ghost use Rattle.work.specs.Areas.{Apart};
 ghost use Rattle.order_grow.specs.Grow.{node_set, Appending, LinksCopied, NodeAppended, Leading, LinkLed};

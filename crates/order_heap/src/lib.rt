@@ -1,5 +1,7 @@
 // A binary min-heap of numbers in the first words of a lent slice, whose count the caller keeps, and the numbers that a heap of ready
 // nodes holds.
+#![tactic(auto)]
+
 ghost use Rattle.std.specs.Prelude.{◌≡◌, ◌^◌, ◌≤◌, ◌<◌, length, take};
 ghost use Rattle.order_heap.specs.Heap.{Heaped, Pushed, Popped};
 ghost use Rattle.order_heap.specs.Stamps.{most_arrivals, stamp, arrival_of};

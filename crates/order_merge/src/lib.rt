@@ -1,4 +1,6 @@
 // Sets of positions in a lent slice: each position's boss stands at or below it, and the earliest of a set, its root, is its own boss.
+#![tactic(auto)]
+
 ghost use Rattle.std.specs.Prelude.{◌<◌, length};
 ghost use Rattle.order_merge.specs.Bosses.{Falls, Finds, Joins};
 

@@ -1,4 +1,6 @@
 // The order of placing: as the nodes become ready, or by keys, where a heap has the next one.
+#![tactic(auto)]
+
 ghost use Rattle.work.specs.Views.{key_in};
 ghost use Rattle.order_release.specs.Release.{Arriving};
 ghost use Rattle.order_ready.specs.Ready.{SmallKeys};

@@ -1,4 +1,6 @@
 // The ready nodes in the heap of the work memory.
+#![tactic(auto)]
+
 ghost use Rattle.std.specs.Prelude.{◌+◌, ◌<◌};
 ghost use Rattle.order_ready.specs.Ready.{InHeap, TookLeast, Pushing, PushedAll};
 

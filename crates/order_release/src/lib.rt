@@ -1,4 +1,6 @@
 // The links of a placed node taken off: who becomes ready by it, and when. Those that have become ready stand one behind the other in an area of the caller's choice.
+#![tactic(auto)]
+
 ghost use Rattle.std.specs.Prelude.{◌≡◌, ◌≤◌, ◌<◌, eqb};
 ghost use Rattle.lists.specs.Lists.{pick};
 ghost use Rattle.order_release.specs.Release.{released, Arrives, Releasing, Live, ReleasedAll};

@@ -21,8 +21,7 @@ use Rattle.work.specs.Views.{incoming_in, spaces_in, origins_in, origin_in}
 use Rattle.work.specs.declared.Areas.{Areas}
 use Rattle.order_graph.specs.Graph.{graph_on, link_count, most_nodes, most_node_links, Stands, Taken, Parted, Owned}
 use Rattle.order_graph.proofs.Links.{links-in, front_kept, stands-kept}
-use Rattle.order_lower.specs.Lower.{far_away}
-use Rattle.order_survey.specs.Survey.{Surveyed, Distanced}
+use Rattle.order_survey.specs.Survey.{far_away, Surveyed, Distanced}
 use Rattle.order_survey.proofs.Distances.{node-links}
 use Rattle.order_grow.proofs.Alike.{after-all, length_from}
 use Rattle.order.specs.Try.{Trying}

@@ -1,5 +1,7 @@
 // The order by spaces, tried again with one copy more as long as some link does not fit in it, its child has another link, and copies are left. It knows nothing of
 // sessions: the graph lies in front, and its first n nodes are the objects.
+#![tactic(auto)]
+
 ghost use Rattle.std.specs.Prelude.{◌≡◌};
 ghost use Rattle.order_graph.specs.Graph.{graph_on, AtNode, Owned};
 ghost use Rattle.order_fit.specs.declared.Look.TheVariants.{Over};
@@ -15,7 +17,7 @@ use order_survey::find_distances;
 use work::Areas;
 
 // How many nodes the graph has with its copies, how long its table is, how many nodes are placed, and the link that does not fit, told of the object that has it.
-#[derive(Drop)]
+#[derive(Clone, Copy)]
 pub struct Arranged {
     pub nodes: usize,
     pub length: u64,

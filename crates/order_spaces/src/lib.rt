@@ -1,5 +1,7 @@
 // The spaces of a graph in the work memory, over an order of its nodes that stands there: space 0 marked, the sets outside it joined, all of them
 // numbered.
+#![tactic(auto)]
+
 ghost use Rattle.order_spaces.specs.Spaces.{Spacing, Spaced};
 
 use number::number_sets;

@@ -1,4 +1,6 @@
 // The sets outside space 0, by bosses of positions: at first each position is a set of its own, and all of space 0 is one.
+#![tactic(auto)]
+
 ghost use Rattle.std.specs.Prelude.{◌+◌, ◌≤◌, ◌<◌, length};
 ghost use Rattle.regions.specs.Region.{region};
 ghost use Rattle.order_merge.specs.Bosses.{Falls};

@@ -8,7 +8,7 @@ use order_graph::{field_from, link_count};
 use work::Areas;
 
 // A link's child, and whether the link is narrow.
-#[derive(Drop)]
+#[derive(Clone, Copy)]
 pub struct Kid {
     pub child: usize,
     pub narrow: bool,
@@ -27,7 +27,7 @@ pub fn kid_from(work: &[u64], a: Areas, n: usize, i: usize, t: usize, from: usiz
 }
 
 // Links in a row to one child, up to number `end`, and whether one of them is narrow.
-#[derive(Drop)]
+#[derive(Clone, Copy)]
 pub struct Run {
     pub end: usize,
     pub child: usize,

@@ -1,4 +1,6 @@
 // Space 0: each node's position in the order, and position 0, the root's, for all that narrow links alone lead to from the root.
+#![tactic(auto)]
+
 ghost use Rattle.std.specs.Prelude.{◌≡◌, ◌+◌, get_or};
 ghost use Rattle.lists.specs.Lists.{pick};
 ghost use Rattle.order_graph.specs.Graph.{AtNode};

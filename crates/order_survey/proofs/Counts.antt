@@ -13,8 +13,7 @@ use Rattle.work.specs.declared.Areas.{Areas}
 use Rattle.model_orders.specs.Object.{Link}
 use Rattle.order_graph.specs.Graph.{graph_on, links_after, link_count, FieldOf}
 use Rattle.order_graph.proofs.Links.{links-in, links-read, links-none, front_kept}
-use Rattle.order_lower.specs.Lower.{far_away}
-use Rattle.order_survey.specs.Survey.{counted_all, Counting, CountedAll}
+use Rattle.order_survey.specs.Survey.{counted_all, far_away, Counting, CountedAll}
 
 -- t fields of node i are counted
 pub record Counts (a : Areas) (n i t : ℕ) (w₀ w : List ℕ) : Type 0 where

@@ -6,7 +6,6 @@ use native.Mathlib.Omega.{arith}
 use native.Mathlib.Decide.{dec_le}
 use lib.ListN.{length, get_or, replicate, length-set, length-replicate}
 use borrow.Author.Tests.{le-ltb, lt-ltb}
-use Rattle.lists.proofs.Elements.{get_or-inside}
 use Rattle.big_endian.proofs.Laws.{capacity-rises}
 use Rattle.model_orders.specs.Bag.{count}
 use Rattle.model_orders.specs.Object.{Link, widest}
@@ -17,7 +16,8 @@ use Rattle.model_orders.proofs.Distances.{in-kids, all-length, distance_least}
 use Rattle.work.specs.Packed.{packed_words, packed_at}
 use Rattle.work.specs.declared.Areas.{Areas}
 use Rattle.order_graph.specs.Graph.{graph_in, links_from, links_at, link_count, link_of, most_nodes, most_weight, Tidy}
-use Rattle.order_lower.specs.Lower.{far_away}
+use Rattle.order_survey.specs.Survey.{far_away}
+use Rattle.order_survey.proofs.Lowers.{get_or-inside}
 
 abbrev pub Light : Graph → Type 0
 Light g = (i : ℕ) (l : Link) → In l (g.links i) → weight g l < most_weight
@@ -27,6 +27,7 @@ Light g = (i : ℕ) (l : Link) → In l (g.links i) → weight g l < most_weight
 -- what holds of each link's words holds of the links read
 links-each : (P : Link → Type 0) (f : List ℕ) (j k : ℕ) → ((t : ℕ) → t < k → P (packed_at f (j + t * packed_words))) → (l : Link) → In l (links_from f j k) → P l
 unfolding links_from
+links-each P f j Prim.Native.Nat.zero h l x'' = elim x'' [ ]
 links-each P f j (suc k) h l (here e) = let z : j + 0 * packed_words ≡ j = omega arith in rw (e, ← z) (h 0 (omega arith))
 links-each P f j (suc k) h l (there i) =
     links-each P f (j + packed_words) k (λ t b. let z : j + packed_words + t * packed_words ≡ j + suc t * packed_words = omega arith in rw z (h (suc t) (omega arith))) l i

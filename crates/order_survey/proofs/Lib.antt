@@ -1,6 +1,7 @@
 pub mod Counts
 pub mod Falls
-pub mod Follows
+pub mod Nodes
+pub mod Lowers
 pub mod Sums
 pub mod Lines
 pub mod Distances

@@ -10,8 +10,8 @@ use Rattle.work.specs.Views.{line_in}
 use Rattle.work.specs.declared.Areas.{Areas}
 use Rattle.order_graph.specs.Graph.{graph_on, most_size}
 use Rattle.order_graph.proofs.Links.{size_in}
-use Rattle.order_lower.specs.Lower.{Along}
-use Rattle.order_lower.proofs.Nodes.{line-inside, line-left, line-done}
+use Rattle.order_survey.specs.Survey.{Along}
+use Rattle.order_survey.proofs.Nodes.{line-inside, line-left, line-done}
 
 -- the sizes of t nodes are summed
 pub record Sums (a : Areas) (n r t sum : ℕ) (w : List ℕ) : Type 0 where

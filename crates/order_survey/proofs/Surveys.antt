@@ -20,8 +20,7 @@ use Rattle.work.specs.declared.Areas.{Areas}
 use Rattle.order_graph.specs.Graph.{graph_on, Stands, AtNode}
 use Rattle.order_graph.proofs.Links.{front_kept, stands-kept}
 use Rattle.order_graph.proofs.Nodes.{ceiling-in, counted-kept}
-use Rattle.order_lower.specs.Lower.{Along}
-use Rattle.order_survey.specs.Survey.{Lined, unlined, LineFound, DistancesSet, Surveyed, Measured, Lines, Distanced, DistancesFound}
+use Rattle.order_survey.specs.Survey.{Lined, unlined, LineFound, Along, DistancesSet, Surveyed, Measured, Lines, Distanced, DistancesFound}
 use Rattle.order_survey.proofs.Lines.{line-reached, incoming-waits}
 use Rattle.order_survey.proofs.Distances.{tidy-light, sums-least}
 

@@ -1,17 +1,17 @@
 -- docs/RULES.md, 7.1 and 7.4, in the work memory. Once for a root: the line of the nodes that it reaches, parents before their children; how many
 -- fields of those lead to each node; and the length of the table. Along such a line: the distances.
-use Rattle.std.specs.Prelude.{ℕ, zero, suc, ◌+◌, ◌*◌, ◌≤◌, ◌<◌, ◌≡◌, List, [], ◌∷◌, ◌++◌, get_or, set, replicate, eqb}
+use Rattle.std.specs.Prelude.{ℕ, zero, suc, ◌+◌, ◌*◌, ◌≤◌, ◌<◌, min, ◌≡◌, List, [], ◌∷◌, ◌++◌, get_or, set, take, replicate, eqb}
 use Rattle.regions.specs.Region.{ceiling, Kept}
 use Rattle.lists.specs.Lists.{pick}
-use Rattle.model_orders.specs.Object.{Link}
+use Rattle.big_endian.specs.BigEndian.{capacity}
+use Rattle.model_orders.specs.Object.{Link, widest}
 use Rattle.model_orders.specs.Bag.{count}
 use Rattle.model_orders.specs.Graph.{Graph, reached, Ranked, ParentsFirst}
-use Rattle.model_orders.specs.Distance.{weight, Least, relax_all, distances_by}
+use Rattle.model_orders.specs.Distance.{weight, Least, relax, relax_all, distances_by}
 use Rattle.model_orders.specs.Table.{table_length}
 use Rattle.work.specs.declared.Areas.{Areas}
 use Rattle.work.specs.Views.{line_in, incoming_in, distances_in}
-use Rattle.order_graph.specs.Graph.{graph_on, most_nodes, most_node_links, Stands, AtNode, Counted}
-use Rattle.order_lower.specs.Lower.{far_away}
+use Rattle.order_graph.specs.Graph.{graph_in, graph_on, links_after, link_count, most_nodes, most_node_links, most_weight, Stands, AtNode, Counted}
 
 -- ---- the line, and the incoming fields
 
@@ -41,6 +41,10 @@ lined_of a r w = record { line = line_in a r w; incoming = incoming_in a w }
 
 -- ---- what the steps ask and do
 
+-- beyond any distance: a path has fewer links than there are nodes, at most most_nodes, 2^15, each of less than most_weight, 2^33
+abbrev pub far_away : ℕ
+far_away = 281474976710656
+
 -- the fields of node i
 pub record Counting (a : Areas) (n i : ℕ) (w : List ℕ) : Type 0 where
   pub node : AtNode a n i w
@@ -64,7 +68,38 @@ pub record LineFound (a : Areas) (n root r : ℕ) (s : Lined) (w w' : List ℕ) 
   pub found : lined_of a r w' ≡ lined (graph_on a n w) (root + 1) s
   pub small : ceiling (incoming_in a w') ≤ ceiling s.incoming + most_nodes * most_node_links
 
--- the distances, along a line of r nodes
+-- the links from number t up to `end` lead to one child, and lower its distance as one link of this weight does
+pub record RunOf (a : Areas) (n : ℕ) (f : List ℕ) (i t end child weigh : ℕ) : Type 0 where
+  pub more : t < end
+  pub most : end ≤ link_count a f i
+  pub known : child < n
+  pub light : weigh < most_weight
+  pub lowers :
+      (d : ℕ) (ds : List ℕ)
+      → relax far_away (weight (graph_in a n f)) d (links_after a f i t) ds
+      ≡ relax far_away (weight (graph_in a n f)) d (links_after a f i end) (set ds child (min (get_or ds child far_away) (d + weigh)))
+
+-- the weight is that of a link of this width
+pub record Narrows (a : Areas) (n : ℕ) (w : List ℕ) (i t end child width : ℕ) : Type 0 where
+  pub run : RunOf a n (take a.keys w) i t end child (get_or w child 0 + capacity width)
+  pub narrow : width ≤ widest
+
+-- the links of node i, whose distance is d, taken up in the distances
+pub record Lowering (a : Areas) (n i d : ℕ) (w : List ℕ) : Type 0 where
+  pub node : AtNode a n i w
+  pub near : d ≤ far_away
+
+pub record Lowered (a : Areas) (n i d : ℕ) (w w' : List ℕ) : Type 0 where
+  pub kept : Kept a.distances a.spaces w w'
+  pub distances : distances_in a w' ≡ relax far_away (weight (graph_on a n w)) d ((graph_on a n w).links i) (distances_in a w)
+  pub bound : ceiling (distances_in a w') ≤ ceiling (distances_in a w)
+
+-- along a line of r nodes
+pub record Along (a : Areas) (n r : ℕ) (w : List ℕ) : Type 0 where
+  pub graph : Stands a n w
+  pub few : r ≤ a.nodes
+  pub ids : ceiling (line_in a r w) ≤ n
+
 pub record LoweredAlong (a : Areas) (n r : ℕ) (w w' : List ℕ) : Type 0 where
   pub kept : Kept a.distances a.spaces w w'
   pub distances : distances_in a w' ≡ relax_all far_away (weight (graph_on a n w)) (graph_on a n w) (line_in a r w) (distances_in a w)

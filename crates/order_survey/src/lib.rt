@@ -1,19 +1,22 @@
 // What every order of a root starts from, found once: the line of the nodes that the root reaches, parents before their children; how many fields
 // of those lead to each node; and the length of the table. Then the distances, for the orders that go by them.
+#![tactic(auto)]
+
 ghost use Rattle.std.specs.Prelude.{◌≡◌, ◌+◌, ◌≤◌, ◌<◌};
 ghost use Rattle.lists.specs.Lists.{total};
 ghost use Rattle.regions.specs.Region.{ceiling};
 ghost use Rattle.model_orders.specs.Graph.{Acyclic};
 ghost use Rattle.work.specs.Views.{line_in, distances_in};
 ghost use Rattle.order_graph.specs.Graph.{graph_on, AtNode};
-ghost use Rattle.order_lower.specs.Lower.{far_away, Along};
-ghost use Rattle.order_survey.specs.Survey.{unlined, lined_of};
-ghost use Rattle.order_survey.specs.Survey.{Counting, CountedAll, Lining, LineFound, LoweredAlong, DistancesSet, Measured, Lines, DistancesFound};
+ghost use Rattle.order_survey.specs.Survey.{unlined, lined_of, far_away};
+ghost use Rattle.order_survey.specs.Survey.{Counting, CountedAll, Lining, LineFound, Along, LoweredAlong, DistancesSet, Measured, Lines, DistancesFound};
 
+use lower::{lower_links, runs_are_common};
 use order_graph::{field_from, link_count, links_at};
-use order_lower::{lower_links, runs_are_common};
 use regions::fill;
 use work::Areas;
+
+mod lower;
 
 // Beyond any distance.
 const FAR_AWAY: u64 = 281474976710656;

@@ -1,4 +1,6 @@
 // Prints, for each named graph, the three orders, the places of their nodes and the first link that does not fit.
+#![tactic(auto)]
+
 ghost use Rattle.std.specs.Prelude.{◌≡◌, true, ◌++◌, ◌+◌, ◌-◌, ◌*◌, ◌/◌, ◌≤◌, ◌<◌, length, get_or};
 ghost use Rattle.model_orders.specs.Words.{link_words};
 ghost use Rattle.work.specs.Packed.{most_half};

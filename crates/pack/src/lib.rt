@@ -2,6 +2,8 @@
 //
 // It ends and answers on any memory, and asks nothing of its caller; the session never changes, and a refused call leaves the output as it was.
 // The other function does its work on stores that are known to be sound; it is for proved callers.
+#![tactic(auto)]
+
 ghost use Rattle.std.specs.Prelude.{◌≡◌, true};
 ghost use Rattle.layout.specs.Sound.{sound};
 ghost use Rattle.model.specs.Told.{told_by_pack};

@@ -1,4 +1,6 @@
 // The closed objects of a session as a graph in the work memory.
+#![tactic(auto)]
+
 ghost use Rattle.std.specs.Prelude.{◌+◌, ◌*◌, ◌<◌, length, get_or};
 ghost use Rattle.work.specs.Packed.{packed_words, Halves};
 ghost use Rattle.pack_copy.specs.Copy.{Copyable, Copied, NodesCopied, LinksCopied};

@@ -1,4 +1,6 @@
 // The graph of a sound session packed, where no refusal that ranks before 11 applies.
+#![tactic(auto)]
+
 ghost use Rattle.pack_graph.specs.Packable.{Packable, Fitting, Written, Answered};
 
 use answer::{ObjectId, PackedTable, Packing, Refusal, Tally};

@@ -1,4 +1,6 @@
 // Table bytes from the order and the places in the work memory.
+#![tactic(auto)]
+
 ghost use Rattle.std.specs.Prelude.{◌≡◌, ◌-◌, ◌≤◌, length};
 ghost use Rattle.lists.specs.Lists.{over};
 ghost use Rattle.model_orders.specs.Table.{filled, FieldsIn};

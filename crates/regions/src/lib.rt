@@ -1,4 +1,6 @@
 // Parts of one lent slice at fixed offsets.
+#![tactic(auto)]
+
 ghost use Rattle.std.specs.Prelude.{◌+◌, ◌≤◌, length};
 ghost use Rattle.regions.specs.Region.{Filling, Away, Copying};
 

@@ -1,4 +1,6 @@
 // Packs the GSUB table of standard input: the packed table's bytes go to standard output; how many lookups are promoted, or a refusal, to standard error.
+#![tactic(auto)]
+
 use gsub_promote::PromoteAnswer;
 use report_gsub::{LONGEST, goes_on, tell, tell_promoted, tell_too_long};
 

@@ -1,6 +1,8 @@
 // What the calls tell, and lent memory, as text on standard output.
 //
 // No function asks anything of its caller. What can't be written is lost, and nothing is told of it.
+#![tactic(auto)]
+
 mod calls;
 mod lent;
 mod print;

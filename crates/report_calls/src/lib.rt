@@ -1,6 +1,8 @@
 // Each of the eight calls, made and printed with what it told.
 //
 // No function asks anything of its caller. A put and a link are printed under a name of the caller's.
+#![tactic(auto)]
+
 use answer::{ObjectId, Packing};
 use report::{tell, tell_close, tell_pack};
 

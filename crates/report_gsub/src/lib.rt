@@ -1,6 +1,8 @@
 // A GSUB table of standard input, packed with as many of its last lookups promoted as that needs, in memory of fixed lengths; and what came of it, as text.
 //
 // No function asks anything of its caller. What can't be written is lost, and nothing is told of it.
+#![tactic(auto)]
+
 use answer::number_of;
 use gsub_promote::{PromoteAnswer, promote_gsub_whole};
 use layout::words::LINKS_AT;

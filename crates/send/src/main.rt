@@ -1,4 +1,6 @@
 // Writes the table of standard input as frames of text to standard output; a refusal goes to standard error.
+#![tactic(auto)]
+
 use answer::number_of;
 use cable_send::sending::{Sending, send};
 

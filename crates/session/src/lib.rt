@@ -2,6 +2,8 @@
 //
 // Every call ends and answers on any memory, and none asks anything of its caller. A refused call leaves both stores as they were.
 // Each is the soundness test and then the work on stores known to be sound: the functions `.._sound`, which are for proved callers too.
+#![tactic(auto)]
+
 ghost use Rattle.std.specs.Prelude.{◌≡◌};
 ghost use Rattle.model.specs.Told.{told_by, told_by_close};
 ghost use Rattle.steps.specs.Runs.{open', put, link, close, drop, tally, stores, left, step_on};

@@ -1,1 +1,2 @@
 // Many calls in one: what the words of a batch say, and what carrying them out leaves and tells. There is no code here.
+#![tactic(auto)]

@@ -1,4 +1,6 @@
 // One call of a batch other than close, carried out on sound stores.
+#![tactic(auto)]
+
 ghost use Rattle.std.specs.Prelude.{◌≡◌, true};
 ghost use Rattle.layout.specs.Sound.{sound};
 ghost use Rattle.session_batch_calls.specs.Carried.{call_by, CallOk, CarriedBy};

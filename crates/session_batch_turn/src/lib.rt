@@ -1,4 +1,6 @@
 // One turn of a batch: its next call read and carried out.
+#![tactic(auto)]
+
 ghost use Rattle.std.specs.Prelude.{◌≡◌};
 ghost use Rattle.session_batch_turn.specs.Turn.{Inside, lent, Ready, NextSays, end_number, CallReady, CallTurned, CloseReady, CloseTurned, Turned};
 
@@ -8,7 +10,7 @@ use session_batch_words::{Next, bytes_taken, read_call, words_taken};
 use session_indexed::close_indexed;
 
 // How far a batch is: the words and the bytes behind it, the ids told, the calls carried out.
-#[derive(Drop)]
+#[derive(Clone, Copy)]
 pub struct Progress {
     pub words: usize,
     pub bytes: usize,
@@ -17,7 +19,7 @@ pub struct Progress {
 }
 
 // How a batch ended: its words are at their end; they are no call; a call is refused.
-#[derive(Drop)]
+#[derive(Clone, Copy)]
 pub enum Ending {
     Done,
     NoCall,
@@ -25,7 +27,7 @@ pub enum Ending {
 }
 
 // A turn leads on, or is the last.
-#[derive(Drop)]
+#[derive(Clone, Copy)]
 pub enum Turn {
     On(Progress),
     Over(Ending),

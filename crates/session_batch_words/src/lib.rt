@@ -1,9 +1,11 @@
 // The next call of a batch, read off its words.
+#![tactic(auto)]
+
 ghost use Rattle.std.specs.Prelude.{◌≡◌};
 ghost use Rattle.session_batch_words.specs.Next.{words_taken, bytes_taken, Says, PutSays, LinkSays, OwnLinkSays, CloseSays};
 
 // Nothing, since there are no words; no call; or a call: a put with how many bytes it takes, a link with its width, the child's id and the inner start.
-#[derive(Drop)]
+#[derive(Clone, Copy)]
 pub enum Next {
     Nothing,
     NoCall,

@@ -1,4 +1,6 @@
 // Chains of ids in lent words: one more at the end of its chain.
+#![tactic(auto)]
+
 ghost use Rattle.std.specs.Prelude.{◌≡◌, ◌<◌, ◌^◌};
 ghost use Rattle.session_hash.specs.Hash.{bucket_of};
 ghost use Rattle.session_chains.specs.Index.{next_at, leader_at, added, Room};

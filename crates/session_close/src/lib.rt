@@ -1,4 +1,6 @@
 // The innermost open object closed: it gets the next id, or the id of the closed object that it equals.
+#![tactic(auto)]
+
 ghost use Rattle.std.specs.Prelude.{◌≡◌, true, ◌<◌};
 ghost use Rattle.layout.specs.Sound.{sound};
 ghost use Rattle.layout.specs.Known.{Read};

@@ -1,4 +1,6 @@
 // The innermost open object forgotten.
+#![tactic(auto)]
+
 ghost use Rattle.std.specs.Prelude.{◌≡◌, true, length};
 ghost use Rattle.layout.specs.Sound.{sound};
 ghost use Rattle.layout.specs.Words.{store_length};

@@ -1,4 +1,6 @@
 // The look for an equal closed object.
+#![tactic(auto)]
+
 ghost use Rattle.std.specs.Prelude.{◌≡◌, ◌+◌, ◌^◌, ◌≤◌, ◌<◌, length};
 ghost use Rattle.layout.specs.Words.{need};
 ghost use Rattle.layout.specs.Known.{Read, Innermost};
@@ -12,7 +14,7 @@ use layout::words::LINKS_AT;
 use model_orders::LINK_WORDS;
 
 // An object as runs of the two stores: its bytes, and the words of its links.
-#[derive(Drop)]
+#[derive(Clone, Copy)]
 pub struct Runs {
     pub from: usize,
     pub size: usize,

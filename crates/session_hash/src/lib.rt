@@ -1,4 +1,6 @@
 // A number for the contents of an object, by which most objects that differ are told apart.
+#![tactic(auto)]
+
 ghost use Rattle.std.specs.Prelude.{◌≡◌, ◌+◌, ◌^◌, ◌≤◌, ◌<◌, length, get_or, drop};
 ghost use Rattle.lists.specs.Lists.{part};
 ghost use Rattle.session_hash.specs.Hash.{hash_limit, mix, mixed, gathered, four, hash_bytes, hash_by};

@@ -1,4 +1,6 @@
 // Close by an index: the look goes along one chain, and a new object is added to its own.
+#![tactic(auto)]
+
 ghost use Rattle.std.specs.Prelude.{◌≡◌, ltb};
 ghost use Rattle.lists.specs.Lists.{pick};
 ghost use Rattle.layout.specs.Words.{closed_count};

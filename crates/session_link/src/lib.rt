@@ -1,4 +1,6 @@
 // A link appended to the innermost open object, with its own field.
+#![tactic(auto)]
+
 ghost use Rattle.std.specs.Prelude.{◌≡◌, true, ◌≤◌, ◌<◌};
 ghost use Rattle.model_orders.specs.Object.{widest};
 ghost use Rattle.layout.specs.Sound.{sound};

@@ -1,4 +1,6 @@
 // Bytes appended to the innermost open object.
+#![tactic(auto)]
+
 ghost use Rattle.std.specs.Prelude.{◌≡◌, true};
 ghost use Rattle.layout.specs.Sound.{sound};
 ghost use Rattle.steps.specs.Steps.{outcome, put_step};

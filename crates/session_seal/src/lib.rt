@@ -1,4 +1,6 @@
 // The innermost open object added to the closed ones.
+#![tactic(auto)]
+
 ghost use Rattle.std.specs.Prelude.{◌≡◌, true, ◌-◌, ◌≤◌, ◌<◌, min, length, replicate};
 ghost use Rattle.lists.specs.Lists.{part, over, zeros};
 ghost use Rattle.layout.specs.Known.{Read, Innermost};

@@ -1,4 +1,6 @@
 // Close by slots, for a session without lent words for an index: the look goes along a few slots, and only where all of them are taken through all closed objects.
+#![tactic(auto)]
+
 ghost use Rattle.std.specs.Prelude.{◌≡◌, ◌+◌, ◌≤◌, ◌<◌, ltb, length};
 ghost use Rattle.lists.specs.Lists.{pick};
 ghost use Rattle.model.specs.Judge.{most_objects};

@@ -1,4 +1,6 @@
 // A session begun anew.
+#![tactic(auto)]
+
 ghost use Rattle.std.specs.Prelude.{◌≡◌, ◌≤◌, ◌<◌, ◌^◌, length};
 ghost use Rattle.layout.specs.Words.{need as recordsNeed};
 ghost use Rattle.model.specs.Told.{told_by};

@@ -1,4 +1,6 @@
 // The counts that every answer comes with.
+#![tactic(auto)]
+
 ghost use Rattle.std.specs.Prelude.{◌≡◌, true, ◌≤◌};
 ghost use Rattle.model.specs.Judge.{most_links, most_bytes};
 ghost use Rattle.layout.specs.Sound.{sound};

@@ -1,4 +1,6 @@
 // Tests of objects: whether the fields of every open and every closed one are right, and whether an order can fill those of the closed ones.
+#![tactic(auto)]
+
 mod hopeless;
 
 ghost use Rattle.std.specs.Prelude.{◌≡◌, true, length};

@@ -1,4 +1,6 @@
 // Tests of one object: whether its fields are right.
+#![tactic(auto)]
+
 ghost use Rattle.std.specs.Prelude.{◌≡◌, ◌+◌, ◌*◌, ◌≤◌, length};
 ghost use Rattle.lists.specs.Lists.{part, holds, zeros};
 ghost use Rattle.model_orders.specs.Object.{narrowest, widest, slot_ok};

@@ -1,4 +1,6 @@
 // Tests of the record store: limits, lengths and counts, and the four tables.
+#![tactic(auto)]
+
 ghost use Rattle.std.specs.Prelude.{◌≡◌, ◌+◌, ◌≤◌, ◌<◌, ◌&&◌, length, get_or, leb, eqb};
 ghost use Rattle.lists.specs.Lists.{part, holds};
 ghost use Rattle.model.specs.Judge.{in_range, most_open};

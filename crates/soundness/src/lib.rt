@@ -1,4 +1,6 @@
 // The soundness test, whole.
+#![tactic(auto)]
+
 ghost use Rattle.std.specs.Prelude.{◌≡◌};
 ghost use Rattle.layout.specs.Sound.{sound};
 

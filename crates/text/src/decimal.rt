@@ -7,7 +7,7 @@ ghost use Rattle.text.specs.Decimal.{width, decimal, most_digits, padded, read_n
 use crate::digits::{DECIMAL, all_digits, put_digits, value_of};
 
 // What a text says as a number.
-#[derive(Drop)]
+#[derive(Clone, Copy)]
 pub enum Number {
     Is(u32),
     Not,

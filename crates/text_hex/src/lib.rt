@@ -1,4 +1,6 @@
 // Bytes as pairs of lowercase hex digits.
+#![tactic(auto)]
+
 ghost use Rattle.std.specs.Prelude.{◌≡◌, ◌+◌, ◌*◌, ◌%◌, ◌≤◌, length};
 ghost use Rattle.lists.specs.Lists.{over};
 ghost use Rattle.text.specs.Digits.{digits, value_of};

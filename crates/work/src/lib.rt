@@ -1,4 +1,6 @@
 // The work memory of a pack: where each of its arrays begins, how many words it needs, and those words cleared.
+#![tactic(auto)]
+
 ghost use Rattle.std.specs.Prelude.{◌≡◌, ◌≤◌, ◌<◌, ◌^◌, min, length, replicate};
 ghost use Rattle.lists.specs.Lists.{over};
 ghost use Rattle.model.specs.Judge.{most_copies};
@@ -14,7 +16,7 @@ pub const MOST_HALF: u64 = 4294967296;
 pub const MOST_COPIES: u32 = 1024;
 
 // Where each array begins, and how many nodes and copies there is room for. The sizes begin at 0.
-#[derive(Drop)]
+#[derive(Clone, Copy)]
 pub struct Areas {
     pub nodes: usize,
     pub copies: usize,

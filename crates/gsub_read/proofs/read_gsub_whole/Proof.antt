@@ -1,7 +1,7 @@
 -- A whole read of the table as it stands.
 use mathlib.Core.Path.{◌∙◌}
 use borrow.Author.Rules.{rules}
-use Rattle.gsub_fields.specs.Fields.{Fits}
+use Rattle.gsub_rows.specs.Fields.{Fits}
 use Rattle.gsub_read.proofs.Loops.{as-it-stands}
 use Rattle.gsub_read.proofs.read_gsub_whole.Statement.{statement}
 use Rattle.gsub_read.proofs.read_gsub_whole.Tie as tie

@@ -1,6 +1,6 @@
 -- `read_in` meets its contract: a refused start, refused ops and a start anew, or accepted ops.
 use borrow.Author.Rules.{rules}
-use Rattle.gsub_read.proofs.Restarts.{start-refused, start-sound, start-empty, read_done, read-refused}
+use Rattle.gsub_read.proofs.Restarts.{start-refused, start-sound, read_done, read-refused}
 use Rattle.gsub_read.proofs.Loops.{not_on}
 use Rattle.gsub_read.proofs.read_in.Statement.{statement}
 use Rattle.gsub_read.proofs.read_in.Tie as tie
@@ -32,7 +32,7 @@ read-begun-requires : tie.Need-read-begun-requires
 read-begun-requires c κs =
     let at_told = c.before.before in
     let at-start = at_told.before.before.before.before.before.before in
-    (start-sound _ _ _ _ at-start.start.ensures at_told.enum_told.given.1, start-empty _ _ _ _ at-start.start.ensures at_told.enum_told.given.1, at-start.before.before.before.before.before.before.requires)
+    (start-sound _ _ _ _ at-start.start.ensures at_told.enum_told.given.1, at-start.before.before.before.before.before.before.requires)
 
 enum-known-p : tie.Need-enum-known-p
 enum-known-p c = search rules

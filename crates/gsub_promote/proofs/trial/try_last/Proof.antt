@@ -1,6 +1,6 @@
 -- The read is refused; or the pack is made.
 use borrow.Author.Rules.{rules}
-use Rattle.gsub_fields.specs.Fields.{Fits}
+use Rattle.gsub_rows.specs.Fields.{Fits}
 use Rattle.steps.specs.Runs.{stores}
 use Rattle.gsub_promote.specs.Search.{lent}
 use Rattle.gsub_promote.proofs.Trying.{not_done, tried-unread, read-sound, tried-packed}

@@ -1,11 +1,8 @@
 -- `read_begun` meets its contract: the header's table is opened, and walked through.
-use mathlib.Core.Path.{sym}
 use native.Mathlib.Omega.{arith}
 use borrow.Author.Rules.{rules}
 use Rattle.gsub.specs.declared.Kind.TheVariants.{Header}
-use Rattle.session_slots.proofs.Keeps.{slotting-fresh}
 use Rattle.gsub_walk.proofs.Moving.{begun-stands}
-use Rattle.gsub_read.proofs.Slots.{begin-kept}
 use Rattle.gsub_read.proofs.Loops.{not_on, not-begun, begun-ran}
 use Rattle.gsub_read.proofs.run.read_begun.Statement.{statement}
 use Rattle.gsub_read.proofs.run.read_begun.Tie as tie
@@ -30,14 +27,8 @@ returns c =
 begun-requires : tie.Need-begun-requires
 begun-requires c κs = search rules
 
-slice-aggregate-run : tie.Need-slice-aggregate-run
-slice-aggregate-run c = search rules
-
 run-requires : tie.Need-run-requires
-run-requires c κs =
-    let p = c.before.before.before.before.before.before.before.before.before.before.before.before.before.before.before.requires in
-    let fresh = slotting-fresh p.0 p.1 (sym (slice-aggregate-run c)) in
-    ((begin-kept fresh c.before.before.before.before.before.before.before.before.before.begin.ensures).slotting, rw c.before.before.before.begun.ensures (begun-stands _ (Header _) 0 p.2 (omega arith)))
+run-requires c κs = (c.before.before.before.before.before.before.before.before.begin.ensures.stays, rw c.before.before.begun.ensures (begun-stands _ (Header _) 0 c.before.before.before.before.before.before.before.before.before.before.before.before.before.before.requires.1 (omega arith)))
 
 same-length-3 : tie.Need-same-length-3
 same-length-3 c = search rules
@@ -47,8 +38,8 @@ same-length-4 c = search rules
 
 returns-2 : tie.Need-returns-2
 returns-2 c =
-    let at-walk = c.before.before.before.before.before.before.before.before.before in
-    begun-ran _ _ _ at-walk.before.before.before.before.before.before.begin.ensures at-walk.before.before.p.given.1 at-walk.begun.ensures c.before.before.before.before.before.run.ensures
+    let at-walk = c.before.before.before.before.before.before.before in
+    begun-ran _ _ _ at-walk.before.before.before.before.before.before.begin.ensures at-walk.before.before.p.given.1 at-walk.begun.ensures c.before.before.before.before.run.ensures
 
 pub read-begun-spec : {M : Type 1} → statement M
 read-begun-spec =
@@ -60,7 +51,6 @@ read-begun-spec =
     same-length-2
     returns
     begun-requires
-    slice-aggregate-run
     run-requires
     same-length-3
     same-length-4

@@ -34,6 +34,9 @@ closed-requires c κs = search rules
 enum-told-3 : tie.Need-enum-told-3
 enum-told-3 c = search rules
 
+enum-told-4 : tie.Need-enum-told-4
+enum-told-4 c = search rules
+
 returns : tie.Need-returns
 unfolding GoesOn
 returns c = rw c.enum_told.given.1 tt
@@ -58,6 +61,10 @@ returns-6 : tie.Need-returns-6
 unfolding GoesOn
 returns-6 c = tt
 
+returns-7 : tie.Need-returns-7
+unfolding GoesOn
+returns-7 c = tt
+
 pub with-move-spec : {M : Type 1} → statement M
 with-move-spec =
     tie.close
@@ -72,9 +79,11 @@ with-move-spec =
     enum-told-2
     closed-requires
     enum-told-3
+    enum-told-4
     returns
     returns-2
     returns-3
     returns-4
     returns-5
-    returns-6)
+    returns-6
+    returns-7)

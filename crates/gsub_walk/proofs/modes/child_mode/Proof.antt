@@ -1,7 +1,7 @@
 -- By the mode; under a table whose last lookups are promoted by the child's kind.
 use mathlib.Core.Path.{sym, ap, ◌∙◌}
 use borrow.Author.Rules.{rules}
-use Rattle.gsub.specs.declared.Mode.TheVariants.{New}
+use Rattle.gsub.specs.Promote.{child_mode}
 use Rattle.gsub_walk.proofs.Children.{list-child, lookup-child, other-child}
 use Rattle.gsub_walk.proofs.modes.child_mode.Statement.{statement}
 use Rattle.gsub_walk.proofs.modes.child_mode.Tie as tie
@@ -49,7 +49,7 @@ returns-4 c =
     other-child a.table.now a.place a.at a.kind a.child _ c.before.before.mode.given.1 c.match2.keys3
 
 returns-5 : tie.Need-returns-5
-returns-5 c = ap New c.word-at.ensures.0 ∙ sym (rw c.before.enum-told3.given.1)
+returns-5 c = sym (rw (c.before.enum-told3.given.1, ← c.word-at.ensures.0))
 
 returns-6 : tie.Need-returns-6
 returns-6 c = sym (rw c.enum-told4.given.1)

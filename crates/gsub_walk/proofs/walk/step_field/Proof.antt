@@ -1,7 +1,9 @@
 -- A law for each move: a field put, one refused, a table too deep, a child begun.
 use native.Mathlib.Omega.{arith}
-use Rattle.gsub_walk.proofs.Moves.{place-fits, put-made, refuse-made, follow-room, deep-made, child-near, begin-made}
 use borrow.Author.Rules.{rules}
+use Rattle.gsub_walk.specs.Rest.{MovesBy}
+use Rattle.gsub_walk.proofs.Moving.{next-ok, field-narrow}
+use Rattle.gsub_walk.proofs.Moves.{place-fits, put-made, refuse-made, follow-room, enter-stands, deep-made, child-near, begin-made}
 use Rattle.gsub_walk.proofs.walk.step_field.Statement.{statement}
 use Rattle.gsub_walk.proofs.walk.step_field.Tie as tie
 
@@ -13,7 +15,7 @@ add_at c =
 judge-requires : tie.Need-judge-requires
 judge-requires c κs =
     let a = c.before.before in
-    (a.requires.0.narrow, place-fits a.requires.0 a.requires.1 (omega (arith, a.well-formed.0.1)))
+    (field-narrow a.requires.0, place-fits a.requires.0 a.requires.1 (omega (arith, a.well-formed.0.1)))
 
 enum_told : tie.Need-enum-told
 enum_told c = search rules
@@ -21,13 +23,10 @@ enum_told c = search rules
 advance-requires : tie.Need-advance-requires
 advance-requires c κs =
     let x = c.before.before.before.before.before.requires.0 in
-    (x.ok, x.narrow.most)
+    (x.stands, x.inside, next-ok x, (field-narrow x).most)
 
 enum-told-2 : tie.Need-enum-told-2
 enum-told-2 c = search rules
-
-stay-requires : tie.Need-stay-requires
-stay-requires c κs = search rules
 
 enum-known-act : tie.Need-enum-known-act
 enum-known-act c = search rules
@@ -37,7 +36,7 @@ read-requires c κs =
     let by = c.before in
     let judged = by.before.before in
     let a = judged.before.before.before in
-    (follow-room a.requires.0 a.requires.1 (omega (arith, a.well-formed.0.1)) judged.judge.ensures by.act.given.1, omega (arith, a.requires.0.narrow.most))
+    (follow-room a.requires.0 a.requires.1 (omega (arith, a.well-formed.0.1)) judged.judge.ensures by.act.given.1, omega (arith, (field-narrow a.requires.0).most))
 
 add-child : tie.Need-overflow-add-child
 add-child c =
@@ -47,35 +46,39 @@ add-child c =
     let a = known.before in
     omega (arith, child-near a.requires.0 a.requires.1 (omega (arith, a.well-formed.0.1)) judged.judge.ensures by.act.given.1 c.read.ensures (λ i. omega (arith, known.shared-slice-known.given i)))
 
-stay-requires-2 : tie.Need-stay-requires-2
-stay-requires-2 c κs = search rules
-
 returns : tie.Need-returns
+unfolding MovesBy
 returns c =
-    let deep = c.before in
-    let value = deep.before in
+    let value = c.before.before in
     let by = value.before.before in
     let judged = by.before.before in
     let a = judged.before.before.before in
-    deep-made a.requires.0 a.requires.1 (omega (arith, a.well-formed.0.1)) judged.judge.ensures by.act.given.1 value.read.ensures deep.if1.true c.stay2.ensures
+    deep-made a.requires.0 a.requires.1 (omega (arith, a.well-formed.0.1)) judged.judge.ensures by.act.given.1 value.read.ensures c.if1.true
 
 child-mode-requires : tie.Need-child-mode-requires
 child-mode-requires c κs =
-    let value = c.before in
+    let value = c.before.before in
     let by = value.before.before in
     let judged = by.before.before in
     let known = judged.before.before in
     let a = known.before in (
-      a.requires.0.ok.begins,
+      (next-ok a.requires.0).begins,
       child-near a.requires.0 a.requires.1 (omega (arith, a.well-formed.0.1)) judged.judge.ensures by.act.given.1 value.read.ensures (λ i. omega (arith, known.shared-slice-known.given i)),
     )
 
+advance-requires-2 : tie.Need-advance-requires-2
+advance-requires-2 c κs =
+    let judged = c.before.before.before.before.before.before.before in
+    let x = judged.before.before.before.requires.0 in
+    (x.stands, x.inside, next-ok x, (field-narrow x).most)
+
 enter-requires : tie.Need-enter-requires
 enter-requires c κs =
-    let fits = c.before in
-    let judged = fits.before.before.before.before.before in
-    let x = judged.before.before.before.requires.0 in
-    (x.ok, x.narrow.most, omega (arith, fits.if1.false))
+    let fits = c.before.before in
+    let by = fits.before.before.before.before in
+    let judged = by.before.before in
+    let a = judged.before.before.before in
+    enter-stands a.requires.0 a.requires.1 (omega (arith, a.well-formed.0.1)) judged.judge.ensures by.act.given.1 (omega (arith, fits.if1.false)) c.advance2.ensures
 
 returns-2 : tie.Need-returns-2
 returns-2 c =
@@ -85,23 +88,24 @@ returns-2 c =
     put-made a.requires.0 a.requires.1 (omega (arith, a.well-formed.0.1)) judged.judge.ensures by.enum_told.given.1 c.advance.ensures
 
 returns-3 : tie.Need-returns-3
+unfolding MovesBy
 returns-3 c =
-    let by = c.before in
-    let judged = by.before.before in
+    let judged = c.before.before in
     let a = judged.before.before.before in
-    refuse-made a.requires.0 a.requires.1 (omega (arith, a.well-formed.0.1)) judged.judge.ensures by.enum-told2.given.1 c.stay.ensures
+    refuse-made a.requires.0 a.requires.1 (omega (arith, a.well-formed.0.1)) judged.judge.ensures c.enum-told2.given.1
 
 returns-4 : tie.Need-returns-4
 returns-4 c =
-    let mode = c.before in
+    let moved = c.before in
+    let mode = moved.before in
     let fits = mode.before in
-    let value = fits.before in
+    let value = fits.before.before in
     let by = value.before.before in
     let judged = by.before.before in
     let known = judged.before.before in
     let a = known.before in
     begin-made a.requires.0 a.requires.1 (omega (arith, a.well-formed.0.1)) judged.judge.ensures by.act.given.1 value.read.ensures (λ i. omega (arith, known.shared-slice-known.given i)) (omega (arith, fits.if1.false)) mode.child-mode.ensures
-    c.enter.ensures
+    moved.advance2.ensures c.enter.ensures
 
 pub step-field-spec : {M : Type 1} → statement M
 step-field-spec =
@@ -112,13 +116,12 @@ step-field-spec =
     enum_told
     advance-requires
     enum-told-2
-    stay-requires
     enum-known-act
     read-requires
     add-child
-    stay-requires-2
     returns
     child-mode-requires
+    advance-requires-2
     enter-requires
     returns-2
     returns-3

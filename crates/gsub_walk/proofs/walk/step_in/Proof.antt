@@ -1,5 +1,6 @@
 -- By the mode, and whether a promoted Lookup's field is its first.
 use borrow.Author.Rules.{rules}
+use Rattle.gsub_walk.proofs.Moving.{next-ok, field-narrow}
 use Rattle.gsub_walk.proofs.Moves.{as_plain, as-last, as-promoted}
 use Rattle.gsub_walk.proofs.walk.step_in.Statement.{statement}
 use Rattle.gsub_walk.proofs.walk.step_in.Tie as tie
@@ -33,7 +34,7 @@ step-field-requires-3 : tie.Need-step-field-requires-3
 step-field-requires-3 c κs =
     let mode = c.before.before in
     let a = mode.before.before.before in
-    (a.requires, as-promoted _ mode.enum-told3.given.1 a.requires c.if1.false)
+    (a.requires, as-promoted _ mode.enum-told3.given.1 (next-ok a.requires) a.requires.found c.if1.false)
 
 enum-known-mode : tie.Need-enum-known-mode
 enum-known-mode c = search rules
@@ -41,7 +42,7 @@ enum-known-mode c = search rules
 step-new-requires : tie.Need-step-new-requires
 step-new-requires c κs =
     let x = c.before.before.before.before.requires in
-    (x.ok, x.narrow, c.before.mode.given.1)
+    (x.stands, x.inside, next-ok x, field-narrow x, c.before.mode.given.1)
 
 returns : tie.Need-returns
 returns c = c.step_field.ensures

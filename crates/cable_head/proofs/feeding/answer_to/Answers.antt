@@ -1,0 +1,17 @@
+-- All in t, or joined.
+use Rattle.cable_head.proofs.Heads.{direct}
+use lib.ListN.{length-take}
+use native.Mathlib.Omega.{arith}
+use mathlib.Core.Path.{sym, ◌∙◌}
+use Rattle.cable_head.proofs.feeding.answer_to.Goals as goal
+
+pub slice_bounds-settle-end : goal.slice_bounds-settle-end
+slice_bounds-settle-end c = omega (arith, c.least-most.ensures, length-take c.least-most.result c.args.t.now)
+
+pub returns-then-len_of-eq0 : goal.returns-then-len_of-eq0
+returns-then-len_of-eq0 c =
+    let e = direct c.args.head.now c.args.t.now c.requires _ (sym c.len_of.ensures ∙ c.if-len_of-eq0.true) c.least-most.ensures in
+    (c.settle.ensures.0 ∙ rw (c.number_at-awaited.ensures, c.number_at-count.ensures, e), c.settle.ensures.1 ∙ rw (c.number_at-awaited.ensures, c.number_at-count.ensures, e))
+
+pub returns : goal.returns
+returns c = (c.answer_joined.ensures.0 ∙ rw (c.number_at-awaited.ensures, c.number_at-count.ensures), c.answer_joined.ensures.1 ∙ rw (c.number_at-awaited.ensures, c.number_at-count.ensures))

@@ -1,5 +1,0 @@
-pub mod Times
-pub mod Runs
-pub mod Laid
-pub mod Looks
-pub mod Modes

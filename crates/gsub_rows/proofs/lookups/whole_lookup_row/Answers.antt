@@ -1,0 +1,40 @@
+-- By the type; the last one's row is for every other number too.
+use borrow.Author.Tests.{ne_eqb}
+use Rattle.gsub.specs.Tables.{by_number, formats}
+use Rattle.gsub_rows.specs.Numbers.{kinds}
+use Rattle.gsub_rows.proofs.Shaped.{as-shape}
+use Rattle.gsub_rows.proofs.lookups.whole_lookup_row.Goals as goal
+
+pub returns-in-1 : goal.returns-in-1
+unfolding formats by_number kinds
+returns-in-1 c = as-shape (rw c.in-1.is) c.lookup_of.ensures
+
+pub returns-in-2 : goal.returns-in-2
+unfolding formats by_number kinds
+returns-in-2 c = as-shape (rw c.in-2.is) c.lookup_of-in-2.ensures
+
+pub returns-in-3 : goal.returns-in-3
+unfolding formats by_number kinds
+returns-in-3 c = as-shape (rw c.in-3.is) c.lookup_of-in-3.ensures
+
+pub returns-in-4 : goal.returns-in-4
+unfolding formats by_number kinds
+returns-in-4 c = as-shape (rw c.in-4.is) c.lookup_of-in-4.ensures
+
+pub returns-in-5 : goal.returns-in-5
+unfolding formats by_number kinds
+returns-in-5 c = as-shape (rw c.in-5.is) c.lookup_of-in-5.ensures
+
+pub returns-in-6 : goal.returns-in-6
+unfolding formats by_number kinds
+returns-in-6 c = as-shape (rw c.in-6.is) c.lookup_of-in-6.ensures
+
+pub returns-in-7 : goal.returns-in-7
+unfolding formats by_number kinds
+returns-in-7 c = as-shape (rw c.in-7.is) c.lookup_of-in-7.ensures
+
+pub returns-in_default : goal.returns-in_default
+unfolding formats by_number kinds
+returns-in_default c =
+    let n = c.args.number in
+    as-shape (rw (ne_eqb n 1 c.in_default.in_default-own.rest.0.0.0.0.0.0.1, ne_eqb n 2 c.in_default.in_default-own.rest.0.0.0.0.0.1, ne_eqb n 3 c.in_default.in_default-own.rest.0.0.0.0.1, ne_eqb n 4 c.in_default.in_default-own.rest.0.0.0.1, ne_eqb n 5 c.in_default.in_default-own.rest.0.0.1, ne_eqb n 6 c.in_default.in_default-own.rest.0.1, ne_eqb n 7 c.in_default.in_default-own.rest.1)) c.lookup_of-in_default.ensures

@@ -1,0 +1,8 @@
+-- The words that are read are the entries around the object.
+use Rattle.layout.proofs.Spans.{open-lies}
+use Rattle.layout.proofs.span.open_span.Goals as goal
+
+pub returns : goal.returns
+returns c =
+    let pre = c.requires in
+    rw (c.word.ensures.0, c.word-2.ensures.0, c.word-3.ensures.0, c.word-4.ensures.0) (open-lies pre.0 _ pre.1)

@@ -1,0 +1,34 @@
+-- `move_8` meets its contract.
+use native.Mathlib.Omega.{arith}
+use lib.ListN.{length-set}
+use Rattle.memory_copy.proofs.Steps.{stored, stored-over}
+use borrow.Author.Rules.{rules}
+use Rattle.memory_copy.proofs.move_8.Goals as goal
+
+pub bounds-s-1 : goal.bounds-s-1
+bounds-s-1 c = simp length-set (omega arith)
+
+pub bounds-s-2 : goal.bounds-s-2
+bounds-s-2 c = simp length-set (omega arith)
+
+pub bounds-s-3 : goal.bounds-s-3
+bounds-s-3 c = simp length-set (omega arith)
+
+pub bounds-s-4 : goal.bounds-s-4
+bounds-s-4 c = simp length-set (omega arith)
+
+pub bounds-s-5 : goal.bounds-s-5
+bounds-s-5 c = simp length-set (omega arith)
+
+pub bounds-s-6 : goal.bounds-s-6
+bounds-s-6 c = simp length-set (omega arith)
+
+pub bounds-s-7 : goal.bounds-s-7
+bounds-s-7 c = simp length-set (omega arith)
+
+pub shape_of-s : goal.shape_of-s
+shape_of-s c = simp length-set
+
+pub returns : goal.returns
+unfolding stored
+returns c = let f = c.args in stored-over 8 f.src.now f.s.now (search rules) (search rules)

@@ -1,0 +1,28 @@
+-- `place_heap` meets its contract: the ready nodes are in the heap, before and after every turn.
+use native.Mathlib.Omega.{arith}
+use Rattle.order_place.proofs.Heaping.{heaping-first, heap-take, heap-placed, heap-pushing, heap-next, heap-last}
+use Rattle.order_place.proofs.place_heap.Goals as goal
+
+pub loop-q-init : goal.loop-q-init
+loop-q-init c = heaping-first c.requires
+
+pub take_least-i-requires : goal.take_least-i-requires
+take_least-i-requires c =
+    (omega arith, heap-take c.requires c.loop-q.invariant c.loop-q-test.true)
+
+pub release_all-more-requires : goal.release_all-more-requires
+release_all-more-requires c =
+    let took = c.take_least-i.ensures in
+    (took.known, heap-placed c.requires c.loop-q.invariant c.loop-q-test.true took)
+
+pub push_arrivals-requires : goal.push_arrivals-requires
+push_arrivals-requires c =
+    heap-pushing c.requires c.loop-q.invariant c.loop-q-test.true c.take_least-i.ensures c.release_all-more.ensures
+
+pub loop-q-preserved : goal.loop-q-preserved
+loop-q-preserved c =
+    heap-next c.requires c.loop-q.invariant c.loop-q-test.true c.take_least-i.ensures c.release_all-more.ensures
+    c.push_arrivals.ensures
+
+pub returns : goal.returns
+returns c = heap-last c.requires c.loop-q.invariant c.loop-q-test.false

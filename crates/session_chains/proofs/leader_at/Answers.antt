@@ -1,0 +1,11 @@
+-- At the begin of an empty chain, or in its last.
+use mathlib.Core.Path.{refl}
+use native.Mathlib.Omega.{arith}
+use borrow.Author.Tests.{eq-eqb, ne_eqb}
+use Rattle.session_chains.proofs.leader_at.Goals as goal
+
+pub returns-then-x-eq0 : goal.returns-then-x-eq0
+returns-then-x-eq0 c = (rw (eq-eqb _ 0 c.if-x-eq0.true) refl, omega arith)
+
+pub returns : goal.returns
+returns c = (rw (ne_eqb _ 0 c.if-x-eq0.false) refl, omega arith)

@@ -1,0 +1,28 @@
+-- Right fields, and then none that no order can fill.
+use mathlib.Core.Path.{sym, ap, ◌∙◌}
+use Prim.Native.Nat.{ℕ}
+use native.Mathlib.Omega.{arith}
+use Rattle.lists.proofs.Runs.{length_part}
+use Rattle.model_orders.specs.Object.{any_hopeless, slots_of}
+use Rattle.layout.specs.Decode.{object_in, links_from}
+use Rattle.layout.proofs.Facts.{own-head}
+use Rattle.layout.proofs.FieldTests.{fields-slots}
+use Rattle.sound_fields.proofs.Hopes.{closed-not, closed-rest}
+use Rattle.sound_fields.proofs.closed_span_ok.Goals as goal
+
+pub returns-then-not-span_ok : goal.returns-then-not-span_ok
+returns-then-not-span_ok c = closed-not _ _ (sym c.span_ok.ensures ∙ c.if-not-span_ok.true)
+
+pub span_hopeless-requires : goal.span_hopeless-requires
+span_hopeless-requires c =
+    let pre = c.requires in
+    let right = sym c.span_ok.ensures ∙ c.if-not-span_ok.false in
+    (pre.0, own-head pre.1, pre.2, fields-slots _ _ _ _ right)
+
+pub returns : goal.returns
+returns c =
+    let right = sym c.span_ok.ensures ∙ c.if-not-span_ok.false in
+    let a = c.args in
+    let size = length_part a.s.from a.s.to a.store.now (omega (arith, c.requires)) in
+    let slots = slots_of (links_from a.records.now a.s.first a.s.last) in
+    closed-rest a.kids (object_in a.store.now a.records.now a.s) right (c.span_hopeless.ensures ∙ ap (λ (n : ℕ). any_hopeless n slots) (sym size))

@@ -1,0 +1,6 @@
+-- Each word is what it is compared as.
+use Rattle.sound_tables.proofs.counts_ok.Goals as goal
+
+pub returns : goal.returns
+returns c =
+    rw (c.word.ensures.0, c.word-2.ensures.0, c.word-3.ensures.0, c.word-4.ensures.0, c.word-5.ensures.0)
