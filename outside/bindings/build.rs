@@ -1,4 +1,4 @@
-//! Links the proved library, which `rt staticlib capi` writes to
+//! Links the proved library, which `tools/library` writes to
 //! target/staticlib. SCOTERLIME_LIB names another folder.
 
 use std::env;
@@ -14,7 +14,7 @@ fn main() {
     let library = folder.join("libcapi.a");
     assert!(
         library.is_file(),
-        "{} is not there: run `rt staticlib capi` in the repository first",
+        "{} is not there: run `tools/library` in the repository first",
         library.display()
     );
     println!("cargo:rerun-if-env-changed=SCOTERLIME_LIB");

@@ -16,8 +16,17 @@ use lines::{arguments, line_end};
 use memory::{at_most, filled};
 use report::text;
 
+// How much of standard input is taken.
+const INPUT: usize = 1 << 16;
+
 // The lines from `from` on, up to the next case.
-fn run_lines(input: &[u8], from: usize, store: &mut [u8], records: &mut [u32]) -> usize
+fn run_lines(
+    to: &impl Print,
+    input: &[u8],
+    from: usize,
+    store: &mut [u8],
+    records: &mut [u32],
+) -> usize
     ensures { from ≤ result }
 {
     let mut at = from;
@@ -27,14 +36,14 @@ fn run_lines(input: &[u8], from: usize, store: &mut [u8], records: &mut [u32]) -
         }
         let end = line_end(input, at);
         let n = arguments(input, at);
-        call(input[at], n, &input[at..end], store, records);
+        call(to, input[at], n, &input[at..end], store, records);
         at = end + 1;
     }
     at
 }
 
 // In stores of the lengths that the line at `from` names, with nothing of a session in them.
-fn run_lent(input: &[u8], from: usize) -> usize
+fn run_lent(to: &impl Print, input: &[u8], from: usize) -> usize
     ensures { from ≤ result }
 {
     let lent = arguments(input, from);
@@ -44,31 +53,31 @@ fn run_lent(input: &[u8], from: usize) -> usize
     let words: &mut [u32] = &mut records;
     let n = at_most(lent.first, bytes.len());
     let r = at_most(lent.second, words.len());
-    run_lines(input, from, &mut bytes[0..n], &mut words[0..r])
+    run_lines(to, input, from, &mut bytes[0..n], &mut words[0..r])
 }
 
 // The name stands behind the letter.
-fn run_case(input: &[u8], at: usize) -> usize
+fn run_case(to: &impl Print, input: &[u8], at: usize) -> usize
     requires { at < length input.now }
     ensures { at < result }
 {
     let name = at + 1;
     let end = line_end(input, name);
-    text(b"case");
-    text(&input[name..end]);
-    text(b"\n");
-    run_lent(input, end + 1)
+    text(to, b"case");
+    text(to, &input[name..end]);
+    text(to, b"\n");
+    run_lent(to, input, end + 1)
 }
 
-fn run(input: &[u8]) {
+fn run(to: &impl Print, input: &[u8]) {
     let mut at = 0;
     while at < input.len() {
-        at = run_case(input, at);
+        at = run_case(to, input, at);
     }
 }
 
-fn main() {
-    let mut input = io::large_buffer();
-    let n = io::read_full(0, &mut input);
-    run(&input[..n]);
+fn main(rt: HostRuntime) {
+    let mut input: [u8; INPUT] = [0; INPUT];
+    let n = streams::read_full(&mut rt.stdin(), &mut input);
+    run(&rt.stdout(), &input[..n]);
 }

@@ -4,8 +4,6 @@ use Prim.Native.Nat.{ℕ, ◌<◌}
 use mathlib.Core.List.{List, [], ◌∷◌}
 use mathlib.Core.Bool.{true}
 use native.Mathlib.Omega.{arith}
-use denote.Enum.Declared.{tag_of}
-use types.Run.{OneOf, miss}
 use lib.ListN.{length}
 use Rattle.answer.specs.declared.ObjectId.{ObjectId}
 use Rattle.layout.specs.Sound.{sound}
@@ -25,10 +23,9 @@ use Rattle.gsub_walk.specs.declared.walk.Move.{Move}
 use Rattle.gsub_walk.specs.Rest.{rest_of, Standing, MovesBy, begun_at}
 use Rattle.gsub_walk.proofs.Moving.{begun-rest}
 use Rattle.gsub_read.specs.declared.perform.Performed.{Performed}
-use Rattle.gsub_read.specs.declared.perform.Performed.TheVariants.{On, Bad, Refused}
+use Rattle.gsub_read.specs.declared.perform.Performed.TheVariants.{On}
 use Rattle.gsub_read.specs.Perform.{PerformedBy, ops_of, RanBy}
 use Rattle.gsub_read.specs.Read.{ops_step, read_step}
-use Rattle.gsub_read.specs.contracts.perform.Performed.{the_type}
 use Rattle.gsub_read.proofs.Made.{goes_on, has_ended, all_made, refused-ends}
 
 pub record Walking (b store₀ records₀ : List ℕ) (walk₀ : Walk) (last₀ : ObjectId) (store records : List ℕ) (walk : Walk) (last : ObjectId) : Type 0 where
@@ -58,12 +55,6 @@ module _ {b s₀ r₀ s r : List ℕ} {w₀ w : Walk} {i₀ i : ObjectId} (x : W
 
   pub all-walked : w.depth ≡ 0 → RanBy (rest_of b w₀) i₀.0 (stores s₀ r₀) (On i) (stores s r)
   all-walked z = let e = all_made b w i (stores s r) z x.stays in record { ran = x.same ∙ e.ran; stays = e.stays }
-
--- what came to a refusal
-pub not_on : (q : Performed) → OneOf (1 ∷ 2 ∷ []) (tag_of the_type q) → (j : ObjectId) → q ≡ On j → ⊥
-not_on (On i) h j e = miss (1 ∷ 2 ∷ []) 0 tt h
-not_on (Bad p) h j e = let z : ◌≡◌ {A = ℕ} 0 1 = cc in omega arith
-not_on (Refused why) h j e = let z : ◌≡◌ {A = ℕ} 0 1 = cc in omega arith
 
 -- ---- the header's table opened, and walked through
 

@@ -11,30 +11,19 @@ use Rattle.gsub.specs.declared.Rule.TheVariants.{Any, Only, To, ToOrNull, ToFeat
 use Rattle.gsub.specs.Tables.{uint16, marked, is, offset16, offset32, offset16_or_null}
 use Rattle.gsub_rows.specs.Numbers.{all_times, times_of, kinds, kind_of, numbers, band, plain_rule, rule_of, width_of, field_of}
 
--- n is none of the m numbers from k on, which the arms of a match name
-abbrev pub NoneOf : ℕ → ℕ → ℕ → Type 0
-NoneOf n k zero = Unit {0}
-NoneOf n k (suc m) = NoneOf n k m × (n ≡ k + m → ⊥)
-
-pub other-times : (n : ℕ) → NoneOf n 0 6 → marked ≡ times_of n
+-- every number from 6 on
+pub other-times : (n : ℕ) → 6 ≤ n → marked ≡ times_of n
 unfolding all_times
-other-times zero h = absurd (h.0.0.0.0.0.1 refl)
-other-times (suc zero) h = absurd (h.0.0.0.0.1 refl)
-other-times (suc (suc zero)) h = absurd (h.0.0.0.1 refl)
-other-times (suc (suc (suc zero))) h = absurd (h.0.0.1 refl)
-other-times (suc (suc (suc (suc zero)))) h = absurd (h.0.1 refl)
-other-times (suc (suc (suc (suc (suc zero))))) h = absurd (h.1 refl)
-other-times (suc (suc (suc (suc (suc (suc zero)))))) h = refl
-other-times (suc (suc (suc (suc (suc (suc (suc n))))))) h = refl
+other-times n past = go (n - 6) ∙ ap times_of (let e : 6 + (n - 6) ≡ n = omega arith in e)
+  where
+    go : (m : ℕ) → marked ≡ times_of (6 + m)
+    go zero = refl
+    go (suc m) = sym (get_or-eq_default all_times marked {n = 6 + suc m} (omega arith))
 
-none_of : (n k m : ℕ) → k ≤ n → NoneOf n k m → k + m ≤ n
-none_of n k zero l h = omega arith
-none_of n k (suc m) l h = let e = h.1 in omega (arith, none_of n k m l h.0)
-
-pub other-kind : (n : ℕ) → NoneOf n 0 35 → FeatureTableSubstitution ≡ kind_of n
+-- every number from 35 on
+pub other-kind : (n : ℕ) → 35 ≤ n → FeatureTableSubstitution ≡ kind_of n
 unfolding kinds
-other-kind n h =
-    let past : 35 ≤ n = none_of n 0 35 (omega arith) h in
+other-kind n past =
     let e : 35 + (n - 35) ≡ n = omega arith in
     go (n - 35) ∙ ap kind_of e
   where

@@ -14,34 +14,36 @@ use report_gsub::{LONGEST, goes_on, tell, tell_promoted, tell_too_long};
 use substitutes::{differing, lookups};
 use visits::visits;
 
-const OUTPUT: i32 = 1;
-
-fn objects(name: &[u8], n: u64, bytes: u64) {
-    value(name, n);
-    value(b" objects, ", bytes);
-    text(b" bytes\n");
+fn objects(to: &impl Print, name: &[u8], n: u64, bytes: u64) {
+    value(to, name, n);
+    value(to, b" objects, ", bytes);
+    text(to, b" bytes\n");
 }
 
 // The table as it stands, and what the session holds of it, the Extensions of promoted lookups among it.
-fn kept(table: &[u8], promoted: usize, held: Tally) {
+fn kept(to: &impl Print, table: &[u8], promoted: usize, held: Tally) {
     let v = visits(table);
-    objects(b"read: ", v.objects, v.bytes);
-    tell_promoted(OUTPUT, promoted);
+    objects(to, b"read: ", v.objects, v.bytes);
+    tell_promoted(to, promoted);
     objects(
+        to,
         b"equal ones kept once: ",
         held.objects as u64,
         held.bytes as u64,
     );
 }
 
-fn compare(table: &[u8], packed: &[u8]) {
+fn compare(to: &impl Print, table: &[u8], packed: &[u8]) {
     let n = differing(table, packed);
     if n == 0 {
-        text(b"read again: every single substitution is the same for every glyph\n");
+        text(
+            to,
+            b"read again: every single substitution is the same for every glyph\n",
+        );
         return;
     }
-    value(b"read again: ", n);
-    text(b" single substitutes differ\n");
+    value(to, b"read again: ", n);
+    text(to, b" single substitutes differ\n");
 }
 
 // Whether the first bytes of `out`, so many, are these.
@@ -63,53 +65,55 @@ fn same(out: &[u8], length: usize, packed: &[u8]) -> bool {
 }
 
 // In a second session.
-fn read_again(table: &[u8], packed: &[u8]) {
+fn read_again(to: &impl Print, table: &[u8], packed: &[u8]) {
     let mut out: [u8; LONGEST] = [0; LONGEST];
     let told = report_gsub::repack(packed, &mut out);
     let PromoteAnswer::Done(_, _, length, _) = told else {
-        text(b"read again: ");
-        tell(OUTPUT, told);
+        text(to, b"read again: ");
+        tell(to, told);
         return;
     };
     if same(&out, length, packed) {
-        text(b"packed again: the same bytes\n");
+        text(to, b"packed again: the same bytes\n");
     } else {
-        text(b"packed again: OTHER BYTES\n");
+        text(to, b"packed again: OTHER BYTES\n");
     }
-    compare(table, packed);
+    compare(to, table, packed);
 }
 
 // The table that a pack left at the front of its output.
-fn show_packed(table: &[u8], out: &[u8], length: usize) {
-    value(b"packed: ", length as u64);
-    text(b" bytes\n");
+fn show_packed(to: &impl Print, table: &[u8], out: &[u8], length: usize) {
+    value(to, b"packed: ", length as u64);
+    text(to, b" bytes\n");
     if length <= out.len() {
-        read_again(table, &out[0..length]);
+        read_again(to, table, &out[0..length]);
     }
 }
 
-fn show(table: &[u8]) {
+fn show(to: &impl Print, table: &[u8]) {
     let mut out: [u8; LONGEST] = [0; LONGEST];
     let told = report_gsub::repack(table, &mut out);
     let PromoteAnswer::Done(promoted, _, length, held) = told else {
-        tell(OUTPUT, told);
+        tell(to, told);
         return;
     };
-    scripts(table);
-    features(table);
-    lookups(table);
-    kept(table, promoted, held);
-    show_packed(table, &out, length);
+    scripts(to, table);
+    features(to, table);
+    lookups(to, table);
+    kept(to, table, promoted, held);
+    show_packed(to, table, &out, length);
 }
 
-fn main() {
+fn main(rt: HostRuntime) {
+    let to = &rt.stdout();
+    let mut from = rt.stdin();
     let mut input: [u8; LONGEST] = [0; LONGEST];
-    let n = io::read_full(0, &mut input);
-    if goes_on() {
-        tell_too_long(OUTPUT);
+    let n = streams::read_full(&mut from, &mut input);
+    if goes_on(&mut from) {
+        tell_too_long(to);
         return;
     }
-    value(b"table: ", n as u64);
-    text(b" bytes\n");
-    show(&input[..n]);
+    value(to, b"table: ", n as u64);
+    text(to, b" bytes\n");
+    show(to, &input[..n]);
 }

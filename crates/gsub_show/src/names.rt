@@ -24,7 +24,7 @@ fn letter(byte: usize) -> u8 {
     byte as u8
 }
 
-fn tag(table: &[u8], at: usize)
+fn tag(to: &impl Print, table: &[u8], at: usize)
     requires { at ≤ 8 * capacity 2 }
 {
     let first = word_at(table, at);
@@ -35,29 +35,29 @@ fn tag(table: &[u8], at: usize)
         letter(last / 256),
         letter(last % 256),
     ];
-    text(b" ");
-    text(&four);
+    text(to, b" ");
+    text(to, &four);
 }
 
 // The tags of the list at `list`, whose records stand behind their count.
-fn tags(table: &[u8], list: usize)
+fn tags(to: &impl Print, table: &[u8], list: usize)
     requires { list < capacity 2 }
 {
     let count = word_at(table, list);
     let mut i = 0;
     while i < count {
-        tag(table, list + (2 + RECORD * i));
+        tag(to, table, list + (2 + RECORD * i));
         i += 1;
     }
-    text(b"\n");
+    text(to, b"\n");
 }
 
-pub fn scripts(table: &[u8]) {
-    text(b"scripts:");
-    tags(table, word_at(table, SCRIPT_LIST));
+pub fn scripts(to: &impl Print, table: &[u8]) {
+    text(to, b"scripts:");
+    tags(to, table, word_at(table, SCRIPT_LIST));
 }
 
-pub fn features(table: &[u8]) {
-    text(b"features:");
-    tags(table, word_at(table, FEATURE_LIST));
+pub fn features(to: &impl Print, table: &[u8]) {
+    text(to, b"features:");
+    tags(to, table, word_at(table, FEATURE_LIST));
 }

@@ -40,28 +40,28 @@ fn is_single(number: usize) -> bool {
     number == SINGLE || number == EXTENSION
 }
 
-fn show_lookup(table: &[u8], list: usize, lookup: usize)
+fn show_lookup(to: &impl Print, table: &[u8], list: usize, lookup: usize)
     requires { (list < capacity 2) × (lookup < capacity 2) }
 {
     let place = list + word_at(table, list + (2 + 2 * lookup));
     let number = word_at(table, place);
-    value(b"lookup ", lookup as u64);
-    value(b": type ", number as u64);
-    value(b", subtables ", word_at(table, place + 4) as u64);
+    value(to, b"lookup ", lookup as u64);
+    value(to, b": type ", number as u64);
+    value(to, b", subtables ", word_at(table, place + 4) as u64);
     if is_single(number) {
-        value(b", single substitutes ", substituted(table, lookup));
+        value(to, b", single substitutes ", substituted(table, lookup));
     }
-    text(b"\n");
+    text(to, b"\n");
 }
 
-pub fn lookups(table: &[u8]) {
+pub fn lookups(to: &impl Print, table: &[u8]) {
     let list = word_at(table, LOOKUP_LIST);
     let count = word_at(table, list);
-    value(b"lookups: ", count as u64);
-    text(b"\n");
+    value(to, b"lookups: ", count as u64);
+    text(to, b"\n");
     let mut lookup = 0;
     while lookup < count {
-        show_lookup(table, list, lookup);
+        show_lookup(to, table, list, lookup);
         lookup += 1;
     }
 }

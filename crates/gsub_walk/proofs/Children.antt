@@ -5,14 +5,11 @@ use mathlib.Core.List.{List, [], ◌∷◌}
 use mathlib.Core.Bool.{Bool, true, false, ◌&&◌}
 use native.Mathlib.Omega.{arith}
 use borrow.Author.Tests.{le-leb, lt-leb}
-use denote.Enum.Declared.{tag_of}
-use types.Run.{OneOf, miss}
 use Rattle.lists.specs.Lists.{pick}
 use Rattle.big_endian.specs.BigEndian.{capacity}
 use Rattle.gsub.specs.declared.Scope.{Scope}
 use Rattle.gsub.specs.declared.Kind.{Kind}
 use Rattle.gsub.specs.declared.Kind.TheVariants.{Header, ScriptList, Script, LangSys, FeatureList, Feature, FeatureWith, FeatureParams, LookupList, Lookup, Extension, SingleSubst, MultipleSubst, Sequence, AlternateSubst, AlternateSet, LigatureSubst, LigatureSet, Ligature, SequenceContext, SequenceRuleSet, SequenceRule, ChainedSequenceContext, ChainedSequenceRuleSet, ChainedSequenceRule, ReverseChainSingleSubst, Coverage, ClassDef, FeatureVariations, ConditionSet, Condition, FeatureTableSubstitution}
-use Rattle.gsub.specs.contracts.Kind.{the_type}
 use Rattle.gsub.specs.declared.Mode.{Mode}
 use Rattle.gsub.specs.declared.Mode.TheVariants.{Plain, Last, Promoted}
 use Rattle.gsub.specs.Tables.{word_at}
@@ -43,10 +40,6 @@ module _ (b : List ℕ) (scope : Scope) (n p a q : ℕ) {v m : ℕ} (e : (v ≡ 
 
 -- ---- a child
 
--- the kinds but LookupList and Lookup, by their numbers
-abbrev others : List ℕ
-others = 0 ∷ 1 ∷ 2 ∷ 3 ∷ 4 ∷ 5 ∷ 6 ∷ 7 ∷ 10 ∷ 11 ∷ 12 ∷ 13 ∷ 14 ∷ 15 ∷ 16 ∷ 17 ∷ 18 ∷ 19 ∷ 20 ∷ 21 ∷ 22 ∷ 23 ∷ 24 ∷ 25 ∷ 26 ∷ 27 ∷ 28 ∷ 29 ∷ 30 ∷ 31 ∷ []
-
 module _ (b : List ℕ) {mode : Mode} (p a : ℕ) (kind : Kind) (q n : ℕ) (e : mode ≡ Last n) where
   pub list-child : (s : Scope) → kind ≡ LookupList s → Last n ≡ child_mode b mode p a kind q
   unfolding by_kind
@@ -56,40 +49,40 @@ module _ (b : List ℕ) {mode : Mode} (p a : ℕ) (kind : Kind) (q n : ℕ) (e :
   unfolding by_kind
   lookup-child s k h = h ∙ sym (rw (e, k))
 
-  pub other-child : OneOf others (tag_of the_type kind) → Plain ≡ child_mode b mode p a kind q
+  pub other-child : ((s : Scope) → kind ≡ LookupList s → ⊥) → ((s : Scope) → kind ≡ Lookup s → ⊥) → Plain ≡ child_mode b mode p a kind q
   unfolding by_kind
-  other-child h = sym (ap (λ m. child_mode b m p a kind q) e ∙ go kind h)
+  other-child no-list no-lookup = sym (ap (λ m. child_mode b m p a kind q) e ∙ go kind no-list no-lookup)
     where
-      go : (k : Kind) → OneOf others (tag_of the_type k) → by_kind k (Last n) (λ s. pick (is_last n b p a && promotes s (word_at b q)) Promoted Plain) ≡ Plain
-      go (Header s) h = refl
-      go ScriptList h = refl
-      go Script h = refl
-      go LangSys h = refl
-      go (FeatureList s) h = refl
-      go Feature h = refl
-      go (FeatureWith p) h = refl
-      go (FeatureParams p) h = refl
-      go (LookupList s) h = absurd (miss others 8 tt h)
-      go (Lookup s) h = absurd (miss others 9 tt h)
-      go (Extension s) h = refl
-      go SingleSubst h = refl
-      go MultipleSubst h = refl
-      go Sequence h = refl
-      go AlternateSubst h = refl
-      go AlternateSet h = refl
-      go LigatureSubst h = refl
-      go LigatureSet h = refl
-      go Ligature h = refl
-      go SequenceContext h = refl
-      go SequenceRuleSet h = refl
-      go SequenceRule h = refl
-      go ChainedSequenceContext h = refl
-      go ChainedSequenceRuleSet h = refl
-      go ChainedSequenceRule h = refl
-      go ReverseChainSingleSubst h = refl
-      go Coverage h = refl
-      go ClassDef h = refl
-      go FeatureVariations h = refl
-      go ConditionSet h = refl
-      go Condition h = refl
-      go FeatureTableSubstitution h = refl
+      go : (k : Kind) → ((s : Scope) → k ≡ LookupList s → ⊥) → ((s : Scope) → k ≡ Lookup s → ⊥) → by_kind k (Last n) (λ s. pick (is_last n b p a && promotes s (word_at b q)) Promoted Plain) ≡ Plain
+      go (Header s) x y = refl
+      go ScriptList x y = refl
+      go Script x y = refl
+      go LangSys x y = refl
+      go (FeatureList s) x y = refl
+      go Feature x y = refl
+      go (FeatureWith p) x y = refl
+      go (FeatureParams p) x y = refl
+      go (LookupList s) x y = absurd (x s refl)
+      go (Lookup s) x y = absurd (y s refl)
+      go (Extension s) x y = refl
+      go SingleSubst x y = refl
+      go MultipleSubst x y = refl
+      go Sequence x y = refl
+      go AlternateSubst x y = refl
+      go AlternateSet x y = refl
+      go LigatureSubst x y = refl
+      go LigatureSet x y = refl
+      go Ligature x y = refl
+      go SequenceContext x y = refl
+      go SequenceRuleSet x y = refl
+      go SequenceRule x y = refl
+      go ChainedSequenceContext x y = refl
+      go ChainedSequenceRuleSet x y = refl
+      go ChainedSequenceRule x y = refl
+      go ReverseChainSingleSubst x y = refl
+      go Coverage x y = refl
+      go ClassDef x y = refl
+      go FeatureVariations x y = refl
+      go ConditionSet x y = refl
+      go Condition x y = refl
+      go FeatureTableSubstitution x y = refl

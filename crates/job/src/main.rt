@@ -5,8 +5,6 @@ use job_rules::{Ending, MOST_BYTES, MOST_TEXT};
 use job_run::run_job;
 use report::{print_bytes, text, value};
 
-const INPUT: i32 = 0;
-
 // A byte more than a job may have is read, to know of it.
 const ROOM: usize = MOST_TEXT + 1;
 
@@ -18,31 +16,31 @@ fn front(bytes: &[u8], n: usize) -> &[u8] {
     &bytes[0..n]
 }
 
-fn show_packed(length: usize, pieces: usize, table: &[u8]) {
-    value(b"length=", length as u64);
-    value(b"\npieces=", pieces as u64);
-    text(b"\ntable=");
-    print_bytes(table);
-    text(b"\n");
+fn show_packed(to: &impl Print, length: usize, pieces: usize, table: &[u8]) {
+    value(to, b"length=", length as u64);
+    value(to, b"\npieces=", pieces as u64);
+    text(to, b"\ntable=");
+    print_bytes(to, table);
+    text(to, b"\n");
 }
 
-fn show_refused(why: u64, line: usize) {
-    value(b"refused=", why);
-    value(b"\nline=", line as u64);
-    text(b"\n");
+fn show_refused(to: &impl Print, why: u64, line: usize) {
+    value(to, b"refused=", why);
+    value(to, b"\nline=", line as u64);
+    text(to, b"\n");
 }
 
-fn show(ending: Ending, out: &[u8]) {
+fn show(to: &impl Print, ending: Ending, out: &[u8]) {
     match ending {
-        Ending::Packed(n, k) => show_packed(n, k, front(out, n)),
-        Ending::Refused(why, line) => show_refused(why, line),
+        Ending::Packed(n, k) => show_packed(to, n, k, front(out, n)),
+        Ending::Refused(why, line) => show_refused(to, why, line),
     }
 }
 
-fn main() {
+fn main(rt: HostRuntime) {
     let mut input: [u8; ROOM] = [0; ROOM];
-    let n = io::read_full(INPUT, &mut input);
+    let n = streams::read_full(&mut rt.stdin(), &mut input);
     let mut out: [u8; MOST_BYTES] = [0; MOST_BYTES];
     let ending = run_job(&input[0..n], &mut out);
-    show(ending, &out);
+    show(&rt.stdout(), ending, &out);
 }

@@ -1,6 +1,6 @@
 -- What the test of a graph's words tells, and that the graph stands where they are loaded.
 use mathlib.Core.Path.{◌≡◌, refl, ◌∙◌}
-use Prim.Native.Nat.{ℕ, zero, suc, ◌+◌, ◌-◌, ◌*◌, ◌^◌, ◌≤◌, ◌<◌}
+use Prim.Native.Nat.{ℕ, zero, suc, ◌+◌, ◌*◌, ◌^◌, ◌≤◌, ◌<◌}
 use mathlib.Core.List.{List, ◌++◌}
 use mathlib.Core.Bool.{Bool, true, false, ◌&&◌}
 use native.Mathlib.Omega.{arith}
@@ -25,7 +25,6 @@ use Rattle.order_fit.specs.Fit.{Placing}
 use Rattle.order_fit.specs.declared.Look.{Look}
 use Rattle.order.specs.Try.{Trying, Ordered, Tried}
 use Rattle.order.specs.declared.By.{By}
-use Rattle.order.specs.declared.By.TheVariants as By
 use Rattle.order.proofs.Orders.{ordered-sorted, ordered-lines}
 use Rattle.orders.specs.Given.{space, all_below, tidy_link, tidy_node, given, Loaded, Stood}
 

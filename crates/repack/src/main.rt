@@ -4,34 +4,31 @@
 use gsub_promote::PromoteAnswer;
 use report_gsub::{LONGEST, goes_on, tell, tell_promoted, tell_too_long};
 
-const OUTPUT: i32 = 1;
-
-const ERRORS: i32 = 2;
-
 // The table that a pack left at the front of its output.
-fn write(out: &[u8], length: usize) {
+fn write(output: &impl Print, out: &[u8], length: usize) {
     if length <= out.len() {
-        io::write_all(OUTPUT, &out[0..length]);
+        streams::write_all(output, &out[0..length]);
     }
 }
 
-fn repack(table: &[u8]) {
+fn repack(rt: HostRuntime, table: &[u8]) {
     let mut out: [u8; LONGEST] = [0; LONGEST];
     let told = report_gsub::repack(table, &mut out);
     let PromoteAnswer::Done(promoted, _, length, _) = told else {
-        tell(ERRORS, told);
+        tell(&rt.stderr(), told);
         return;
     };
-    tell_promoted(ERRORS, promoted);
-    write(&out, length);
+    tell_promoted(&rt.stderr(), promoted);
+    write(&rt.stdout(), &out, length);
 }
 
-fn main() {
+fn main(rt: HostRuntime) {
+    let mut from = rt.stdin();
     let mut input: [u8; LONGEST] = [0; LONGEST];
-    let n = io::read_full(0, &mut input);
-    if goes_on() {
-        tell_too_long(ERRORS);
+    let n = streams::read_full(&mut from, &mut input);
+    if goes_on(&mut from) {
+        tell_too_long(&rt.stderr());
         return;
     }
-    repack(&input[..n]);
+    repack(rt, &input[..n]);
 }

@@ -5,63 +5,63 @@ use answer::{
     number_of,
 };
 
-fn numbered(name: &[u8], n: u64) {
-    text(name);
-    value(b" number=", n);
+fn numbered(to: &impl Print, name: &[u8], n: u64) {
+    text(to, name);
+    value(to, b" number=", n);
 }
 
-fn counts(t: Tally) {
-    value(b" bytes=", t.bytes as u64);
-    value(b" links=", t.links as u64);
-    value(b" objects=", t.objects as u64);
-    value(b" depth=", t.depth as u64);
+fn counts(to: &impl Print, t: Tally) {
+    value(to, b" bytes=", t.bytes as u64);
+    value(to, b" links=", t.links as u64);
+    value(to, b" objects=", t.objects as u64);
+    value(to, b" depth=", t.depth as u64);
 }
 
-fn told(name: &[u8], n: u64, t: Tally) {
-    numbered(name, n);
-    counts(t);
+fn told(to: &impl Print, name: &[u8], n: u64, t: Tally) {
+    numbered(to, name, n);
+    counts(to, t);
 }
 
-pub fn tell(name: &[u8], a: Answer) {
+pub fn tell(to: &impl Print, name: &[u8], a: Answer) {
     match a {
-        Answer::Done(t) => told(name, 0, t),
-        Answer::Refused(r, t) => told(name, number_of(r), t),
+        Answer::Done(t) => told(to, name, 0, t),
+        Answer::Refused(r, t) => told(to, name, number_of(r), t),
     }
-    text(b"\n");
+    text(to, b"\n");
 }
 
-fn closed(n: u64, t: Tally, id: ObjectId) {
-    told(b"close", n, t);
-    value(b" id=", id.0 as u64);
-    text(b"\n");
+fn closed(to: &impl Print, n: u64, t: Tally, id: ObjectId) {
+    told(to, b"close", n, t);
+    value(to, b" id=", id.0 as u64);
+    text(to, b"\n");
 }
 
-pub fn tell_close(a: Closing) {
+pub fn tell_close(to: &impl Print, a: Closing) {
     match a {
-        Closing::Done(i, t) => closed(0, t, i),
-        Closing::Refused(r, t) => closed(number_of(r), t, ObjectId(0)),
+        Closing::Done(i, t) => closed(to, 0, t, i),
+        Closing::Refused(r, t) => closed(to, number_of(r), t, ObjectId(0)),
     }
 }
 
-fn overflow(o: Overflow) {
+fn overflow(to: &impl Print, o: Overflow) {
     let parent = o.parent;
-    value(b" parent=", parent.0 as u64);
-    value(b" field=", o.field as u64);
-    value(b" needed=", o.needed as u64);
+    value(to, b" parent=", parent.0 as u64);
+    value(to, b" field=", o.field as u64);
+    value(to, b" needed=", o.needed as u64);
 }
 
-fn packed(n: u64, t: Tally, p: PackedTable, o: Overflow) {
-    told(b"pack", n, t);
-    value(b" length=", p.length as u64);
-    overflow(o);
-    value(b" copies=", p.copies as u64);
-    value(b" placed=", p.placed as u64);
-    text(b"\n");
+fn packed(to: &impl Print, n: u64, t: Tally, p: PackedTable, o: Overflow) {
+    told(to, b"pack", n, t);
+    value(to, b" length=", p.length as u64);
+    overflow(to, o);
+    value(to, b" copies=", p.copies as u64);
+    value(to, b" placed=", p.placed as u64);
+    text(to, b"\n");
 }
 
-pub fn tell_pack(a: Packing) {
+pub fn tell_pack(to: &impl Print, a: Packing) {
     match a {
-        Packing::Done(p, t) => packed(0, t, p, nowhere()),
-        Packing::Refused(r, t) => packed(number_of(r), t, no_table(), named_by(r)),
+        Packing::Done(p, t) => packed(to, 0, t, p, nowhere()),
+        Packing::Refused(r, t) => packed(to, number_of(r), t, no_table(), named_by(r)),
     }
 }

@@ -17,55 +17,55 @@ fn sum_of(bytes: &[u8]) -> u64 {
 }
 
 // Bytes in hex.
-pub fn print_bytes(bytes: &[u8]) {
+pub fn print_bytes(to: &impl Print, bytes: &[u8]) {
     let mut i = 0;
     while i < bytes.len() {
-        hex(bytes[i]);
+        hex(to, bytes[i]);
         i += 1;
     }
 }
 
 // Bytes in hex, or of many how many and their sum.
-pub fn show_bytes(name: &[u8], bytes: &[u8]) {
-    text(name);
+pub fn show_bytes(to: &impl Print, name: &[u8], bytes: &[u8]) {
+    text(to, name);
     if bytes.len() <= 64 {
-        print_bytes(bytes);
-        text(b"\n");
+        print_bytes(to, bytes);
+        text(to, b"\n");
         return;
     }
-    io::print_decimal(1, bytes.len() as u64);
-    value(b" sum ", sum_of(bytes));
-    text(b"\n");
+    streams::print_decimal(to, bytes.len() as u64);
+    value(to, b" sum ", sum_of(bytes));
+    text(to, b"\n");
 }
 
 // Number i of a line, behind those before it.
-pub fn print_next(i: usize, n: u64) {
+pub fn print_next(to: &impl Print, i: usize, n: u64) {
     if 0 < i {
-        text(b" ");
+        text(to, b" ");
     }
-    io::print_decimal(1, n);
+    streams::print_decimal(to, n);
 }
 
-fn print_word(i: usize, w: u32) {
-    print_next(i, w as u64);
+fn print_word(to: &impl Print, i: usize, w: u32) {
+    print_next(to, i, w as u64);
 }
 
-pub fn show_words(name: &[u8], words: &[u32]) {
-    text(name);
+pub fn show_words(to: &impl Print, name: &[u8], words: &[u32]) {
+    text(to, name);
     let mut i = 0;
     while i < words.len() {
-        print_word(i, words[i]);
+        print_word(to, i, words[i]);
         i += 1;
     }
-    text(b"\n");
+    text(to, b"\n");
 }
 
-pub fn show_longs(name: &[u8], words: &[u64]) {
-    text(name);
+pub fn show_longs(to: &impl Print, name: &[u8], words: &[u64]) {
+    text(to, name);
     let mut i = 0;
     while i < words.len() {
-        print_next(i, words[i]);
+        print_next(to, i, words[i]);
         i += 1;
     }
-    text(b"\n");
+    text(to, b"\n");
 }

@@ -1,4 +1,4 @@
-// What the calls tell, and lent memory, as text on standard output.
+// What the calls tell, and lent memory, as text on a standard stream.
 //
 // No function asks anything of its caller. What can't be written is lost, and nothing is told of it.
 #![tactic(auto)]

@@ -1,33 +1,33 @@
 // Bytes and numbers, as text.
 
-pub fn text(bytes: &[u8]) {
-    io::write_all(1, bytes);
+pub fn text(to: &impl Print, bytes: &[u8]) {
+    streams::write_all(to, bytes);
 }
 
 // A number in decimal, behind its name.
-pub fn value(name: &[u8], n: u64) {
-    text(name);
-    io::print_decimal(1, n);
+pub fn value(to: &impl Print, name: &[u8], n: u64) {
+    text(to, name);
+    streams::print_decimal(to, n);
 }
 
 // A byte in hex, two digits.
-pub fn hex(b: u8) {
-    io::print_hex(1, b as u64, 2);
+pub fn hex(to: &impl Print, b: u8) {
+    streams::print_hex(to, b);
 }
 
 // A short text, n times.
-pub fn repeat(bytes: &[u8], n: usize) {
+pub fn repeat(to: &impl Print, bytes: &[u8], n: usize) {
     let mut i = 0;
     while i < n {
-        text(bytes);
+        text(to, bytes);
         i += 1;
     }
 }
 
 // A number below a hundred, in three columns; a longer one is not cut.
-pub fn column(n: u64) {
+pub fn column(to: &impl Print, n: u64) {
     if n < 10 {
-        text(b" ");
+        text(to, b" ");
     }
-    value(b" ", n);
+    value(to, b" ", n);
 }

@@ -6,42 +6,51 @@
 use answer::{ObjectId, Packing};
 use report::{tell, tell_close, tell_pack};
 
-pub fn start(store: &mut [u8], records: &mut [u32], objects: u32, links: u32) {
+pub fn start(to: &impl Print, store: &mut [u8], records: &mut [u32], objects: u32, links: u32) {
     let told = session::start(store, records, objects, links);
-    tell(b"start", told);
+    tell(to, b"start", told);
 }
 
-pub fn open(store: &[u8], records: &mut [u32]) {
+pub fn open(to: &impl Print, store: &[u8], records: &mut [u32]) {
     let told = session::open(store, records);
-    tell(b"open", told);
+    tell(to, b"open", told);
 }
 
-pub fn put(name: &[u8], store: &mut [u8], records: &mut [u32], bytes: &[u8]) {
+pub fn put(to: &impl Print, name: &[u8], store: &mut [u8], records: &mut [u32], bytes: &[u8]) {
     let told = session::put(store, records, bytes);
-    tell(name, told);
+    tell(to, name, told);
 }
 
-pub fn link(name: &[u8], store: &[u8], records: &mut [u32], width: u32, id: ObjectId, inner: u32) {
+pub fn link(
+    to: &impl Print,
+    name: &[u8],
+    store: &[u8],
+    records: &mut [u32],
+    width: u32,
+    id: ObjectId,
+    inner: u32,
+) {
     let told = session::link(store, records, width, id, inner);
-    tell(name, told);
+    tell(to, name, told);
 }
 
-pub fn close(store: &mut [u8], records: &mut [u32]) {
+pub fn close(to: &impl Print, store: &mut [u8], records: &mut [u32]) {
     let told = session::close(store, records);
-    tell_close(told);
+    tell_close(to, told);
 }
 
-pub fn drop(store: &mut [u8], records: &mut [u32]) {
+pub fn drop(to: &impl Print, store: &mut [u8], records: &mut [u32]) {
     let told = session::drop(store, records);
-    tell(b"drop", told);
+    tell(to, b"drop", told);
 }
 
-pub fn tally(store: &[u8], records: &[u32]) {
+pub fn tally(to: &impl Print, store: &[u8], records: &[u32]) {
     let told = session::tally(store, records);
-    tell(b"tally", told);
+    tell(to, b"tally", told);
 }
 
 pub fn pack(
+    to: &impl Print,
     store: &[u8],
     records: &[u32],
     id: ObjectId,
@@ -50,6 +59,6 @@ pub fn pack(
     work: &mut [u64],
 ) -> Packing {
     let told = pack::pack(store, records, id, copies, out, work);
-    tell_pack(told);
+    tell_pack(to, told);
     told
 }

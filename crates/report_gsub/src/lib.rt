@@ -7,6 +7,7 @@ use answer::number_of;
 use gsub_promote::{PromoteAnswer, promote_gsub_whole};
 use layout::words::LINKS_AT;
 use model_orders::LINK_WORDS;
+use std::io::Read;
 
 // How long a table may be, and its packed one: some lookups have to be promoted only where a table is longer than an offset of two bytes can count.
 pub const LONGEST: usize = 1 << 18;
@@ -21,10 +22,10 @@ const RECORDS: usize = LINKS_AT + OBJECTS * 2 + LINKS * LINK_WORDS;
 // Eleven words for each object, two for each link.
 const WORK: usize = OBJECTS * 11 + LINKS * 2;
 
-// Whether standard input has a byte more.
-pub fn goes_on() -> bool {
+// Whether the input has a byte more.
+pub fn goes_on(from: &mut impl Read) -> bool {
     let mut one: [u8; 1] = [0; 1];
-    0 < io::read_full(0, &mut one)
+    0 < streams::read_full(from, &mut one)
 }
 
 // Packs the table into `out`, in a session of its own.
@@ -43,32 +44,32 @@ pub fn repack(table: &[u8], out: &mut [u8]) -> PromoteAnswer {
     )
 }
 
-fn line(fd: i32, name: &[u8], n: u64) {
-    io::write_all(fd, name);
-    io::print_decimal(fd, n);
-    io::write_all(fd, b"\n");
+fn line(to: &impl Print, name: &[u8], n: u64) {
+    streams::write_all(to, name);
+    streams::print_decimal(to, n);
+    streams::write_all(to, b"\n");
 }
 
 // A refusal; nothing of a table that was packed.
-pub fn tell(fd: i32, a: PromoteAnswer) {
+pub fn tell(to: &impl Print, a: PromoteAnswer) {
     match a {
         PromoteAnswer::Done(_, _, _, _) => {}
-        PromoteAnswer::BadTable(place) => line(fd, b"refused 15 at ", place as u64),
-        PromoteAnswer::Refused(why) => line(fd, b"refused ", number_of(why)),
+        PromoteAnswer::BadTable(place) => line(to, b"refused 15 at ", place as u64),
+        PromoteAnswer::Refused(why) => line(to, b"refused ", number_of(why)),
     }
 }
 
 // How many lookups are promoted; nothing where none is.
-pub fn tell_promoted(fd: i32, lookups: usize) {
+pub fn tell_promoted(to: &impl Print, lookups: usize) {
     if lookups == 0 {
         return;
     }
-    io::write_all(fd, b"promoted: ");
-    io::print_decimal(fd, lookups as u64);
-    io::write_all(fd, b" lookups\n");
+    streams::write_all(to, b"promoted: ");
+    streams::print_decimal(to, lookups as u64);
+    streams::write_all(to, b" lookups\n");
 }
 
 // Standard input is no table of this length.
-pub fn tell_too_long(fd: i32) {
-    io::write_all(fd, b"longer than 262,144 bytes\n");
+pub fn tell_too_long(to: &impl Print) {
+    streams::write_all(to, b"longer than 262,144 bytes\n");
 }

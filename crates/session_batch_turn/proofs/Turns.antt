@@ -7,6 +7,7 @@ use native.Mathlib.Omega.{arith}
 use native.Mathlib.Numerals.{add-one}
 use borrow.Author.Tests.{ne_eqb}
 use denote.Enum.Declared.{tag_of}
+use borrow.Author.Rules.{rules}
 use types.Run.{OneOf, miss}
 use lib.Dec.{eqb}
 use lib.ListN.{length, take, drop, set, length-set, length-take, length-drop}
@@ -57,6 +58,16 @@ next-says {calls} {bytes} {ids} {p} {n} k s =
 -- the tags of these calls
 abbrev call_tags : List ℕ
 call_tags = 2 ∷ 3 ∷ 4 ∷ 6 ∷ []
+
+-- what is neither the end, nor no call, nor a close
+pub other-call : (n : Next) → (n ≡ Next.Nothing → ⊥) → (n ≡ Next.NoCall → ⊥) → (n ≡ Next.Close → ⊥) → OneOf call_tags (tag_of the_type n)
+other-call Next.Nothing a b c = absurd (a refl)
+other-call Next.NoCall a b c = absurd (b refl)
+other-call Next.Open a b c = search rules
+other-call (Next.Put k) a b c = search rules
+other-call (Next.Link w i s) a b c = search rules
+other-call Next.Close a b c = absurd (c refl)
+other-call Next.Drop a b c = search rules
 
 pub call_ok : (bytes : List ℕ) (n : Next) → bytes_taken n ≤ length bytes → CallOk bytes n
 unfolding CallOk
@@ -169,10 +180,10 @@ module _ {calls bytes : List ℕ} {buckets : ℕ} {l : Lent} {p : Progress} (k :
     -- ---- the words are at their end, or no call
 
     pub turned-nothing : n ≡ Next.Nothing → Turned calls bytes buckets l p (Over Ending.Done) l
-    turned-nothing e = turned-over Ending.Done (λ rest. ap (turn by_stores rest u) (s.is ∙ ap (said_by _ _) e)) k.keeping
+    turned-nothing e = turned-over Ending.Done (λ rest. ap (turn by_stores rest u) (s.is ∙ ap (said_by (drop {A = ℕ} p.bytes bytes) (drop {A = ℕ} p.words calls)) e)) k.keeping
 
     pub turned_none : n ≡ Next.NoCall → Turned calls bytes buckets l p (Over Ending.NoCall) l
-    turned_none e = turned-over Ending.NoCall (λ rest. ap (turn by_stores rest u) (s.is ∙ ap (said_by _ _) e)) k.keeping
+    turned_none e = turned-over Ending.NoCall (λ rest. ap (turn by_stores rest u) (s.is ∙ ap (said_by (drop {A = ℕ} p.bytes bytes) (drop {A = ℕ} p.words calls)) e)) k.keeping
 
     -- ---- a call other than close
 
@@ -187,7 +198,7 @@ module _ {calls bytes : List ℕ} {buckets : ℕ} {l : Lent} {p : Progress} (k :
       bytes_behind = drop (p.bytes + bytes_taken n) bytes
 
       says-call : next_said calls bytes l.ids p ≡ says c words_behind bytes_behind
-      says-call = s.is ∙ call-said _ _ n tag ∙ rw (drop-drop (words_taken n) p.words calls, drop-drop (bytes_taken n) p.bytes bytes)
+      says-call = s.is ∙ call-said (drop p.bytes bytes) (drop p.words calls) n tag ∙ rw (drop-drop (words_taken n) p.words calls, drop-drop (bytes_taken n) p.bytes bytes)
 
       pub call-ready : length calls < 2 ^ 64 → CallReady l.stores.bytes l.stores.words bytes n p
       call-ready h = record {
@@ -222,7 +233,7 @@ module _ {calls bytes : List ℕ} {buckets : ℕ} {l : Lent} {p : Progress} (k :
 
     module _ (tag : n ≡ Next.Close) where
       says-close : next_said calls bytes l.ids p ≡ says close (drop (p.words + 1) calls) (drop p.bytes bytes)
-      says-close = s.is ∙ ap (said_by _ _) tag ∙ rw (drop-drop 1 p.words calls)
+      says-close = s.is ∙ ap (said_by (drop p.bytes bytes) (drop p.words calls)) tag ∙ rw (drop-drop 1 p.words calls)
 
       word-left : 1 ≤ length calls - p.words
       word-left = rw tag at s.within.in_words

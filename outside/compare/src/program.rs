@@ -1,4 +1,4 @@
-//! The proved program for jobs, which `rt check job` writes to target/bin.
+//! The proved program for jobs, which `tools/program job` writes to target/bin.
 //! SCOTERLIME_JOB names another.
 
 use std::env;

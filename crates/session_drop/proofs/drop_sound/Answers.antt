@@ -20,4 +20,4 @@ release-requires c =
 
 pub returns : goal.returns
 returns c =
-    rw (c.release.ensures, c.forget.ensures.0, c.forget.ensures.1) (drop-done (held c.read-s.ensures c.tally_of-t.ensures) c.innermost-own.ensures)
+    rw (c.release.ensures, c.forget.ensures.bytes, c.forget.ensures.words) (drop-done (held c.read-s.ensures c.tally_of-t.ensures) c.innermost-own.ensures)

@@ -1,6 +1,7 @@
 -- What is held and then t, at the front of the array.
 use Prim.Native.Nat.{◌+◌}
-use mathlib.Core.Path.{sym, ◌∙◌}
+use borrow.Author.Rules.{rules}
+use mathlib.Core.Path.{◌∙◌}
 use Rattle.cable_head.proofs.Heads.{join-done}
 use lib.ListN.{length-take}
 use native.Mathlib.Omega.{arith}
@@ -18,5 +19,5 @@ slice_bounds-settle-end c = omega (arith, length-take (c.len_of-len.result + c.l
 pub returns : goal.returns
 returns c =
     let a = c.args in
-    let e = join-done a.head.now a.t.now c.requires _ _ c.len_of-len.ensures c.least-more.ensures _ _ _ (sym (slice-aggregate-copy c {-PLACE c.before.before.before.before.before.before.before.before.before.before.before.before-})) c.copy.ensures c.copy-2.ensures in
+    let e = join-done a.head.now a.t.now c.requires _ _ c.len_of-len.ensures c.least-more.ensures _ _ _ (search rules) c.copy.ensures c.copy-2.ensures in
     (c.settle.ensures.0 ∙ rw e, c.settle.ensures.1 ∙ rw e)

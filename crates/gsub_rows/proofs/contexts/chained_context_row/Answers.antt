@@ -1,5 +1,6 @@
 -- By the format; the last one's row is for every other number too.
 use mathlib.Core.Path.{refl}
+use native.Mathlib.Omega.{arith}
 use borrow.Author.Tests.{ne_eqb}
 use Rattle.gsub.specs.Tables.{size, by_number, formats}
 use Rattle.gsub_rows.specs.Numbers.{all_times, kinds, field_of}
@@ -19,4 +20,4 @@ pub returns-in_default : goal.returns-in_default
 unfolding formats by_number shape_of run_of all_times kinds field_of right_runs right_run size
 returns-in_default c =
     let n = c.args.format in
-    has-shape (rw (ne_eqb n 1 c.in_default.in_default-own.rest.0.1, ne_eqb n 2 c.in_default.in_default-own.rest.1)) refl refl
+    has-shape (rw (ne_eqb n 1 (omega arith), ne_eqb n 2 (omega arith))) refl refl

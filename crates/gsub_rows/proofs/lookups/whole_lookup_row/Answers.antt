@@ -1,4 +1,5 @@
 -- By the type; the last one's row is for every other number too.
+use native.Mathlib.Omega.{arith}
 use borrow.Author.Tests.{ne_eqb}
 use Rattle.gsub.specs.Tables.{by_number, formats}
 use Rattle.gsub_rows.specs.Numbers.{kinds}
@@ -37,4 +38,4 @@ pub returns-in_default : goal.returns-in_default
 unfolding formats by_number kinds
 returns-in_default c =
     let n = c.args.number in
-    as-shape (rw (ne_eqb n 1 c.in_default.in_default-own.rest.0.0.0.0.0.0.1, ne_eqb n 2 c.in_default.in_default-own.rest.0.0.0.0.0.1, ne_eqb n 3 c.in_default.in_default-own.rest.0.0.0.0.1, ne_eqb n 4 c.in_default.in_default-own.rest.0.0.0.1, ne_eqb n 5 c.in_default.in_default-own.rest.0.0.1, ne_eqb n 6 c.in_default.in_default-own.rest.0.1, ne_eqb n 7 c.in_default.in_default-own.rest.1)) c.lookup_of-in_default.ensures
+    as-shape (rw (ne_eqb n 1 (omega arith), ne_eqb n 2 (omega arith), ne_eqb n 3 (omega arith), ne_eqb n 4 (omega arith), ne_eqb n 5 (omega arith), ne_eqb n 6 (omega arith), ne_eqb n 7 (omega arith))) c.lookup_of-in_default.ensures

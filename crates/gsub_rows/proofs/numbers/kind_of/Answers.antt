@@ -1,4 +1,5 @@
 -- An arm for each number.
+use native.Mathlib.Omega.{arith}
 use Rattle.gsub_rows.specs.Numbers.{kinds}
 use Rattle.gsub_rows.proofs.Bands.{other-kind}
 use Rattle.gsub_rows.proofs.numbers.kind_of.Goals as goal
@@ -144,4 +145,4 @@ unfolding kinds
 returns-in-34 c = rw c.in-34.is
 
 pub returns-in_default : goal.returns-in_default
-returns-in_default c = other-kind _ c.in_default.in_default-own.rest
+returns-in_default c = other-kind _ (omega arith)

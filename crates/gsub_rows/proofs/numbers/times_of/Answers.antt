@@ -1,4 +1,5 @@
 -- An arm for each number.
+use native.Mathlib.Omega.{arith}
 use Rattle.gsub_rows.specs.Numbers.{all_times}
 use Rattle.gsub_rows.proofs.Bands.{other-times}
 use Rattle.gsub_rows.proofs.numbers.times_of.Goals as goal
@@ -28,4 +29,4 @@ unfolding all_times
 returns-in-5 c = rw c.in-5.is
 
 pub returns-in_default : goal.returns-in_default
-returns-in_default c = other-times _ c.in_default.in_default-own.rest
+returns-in_default c = other-times _ (omega arith)

@@ -1,0 +1,59 @@
+-- The job goes on from what is left of the text, with the objects and ids that the stores hold.
+use Rattle.job_rest.proofs.Going.{going-none, going-over, going-halts, going_next}
+use Rattle.job_header.proofs.Lined.{part-inside, part-some, part-short}
+use native.Mathlib.Omega.{arith}
+use mathlib.Core.Path.{refl, sym, ◌∙◌}
+use borrow.Author.Rules.{rules}
+use Rattle.job_rest.proofs.run_rest.Goals as goal
+
+pub loop-at-init : goal.loop-at-init
+loop-at-init c =
+    let args = c.args in
+    let pre = c.requires in
+    (refl, refl, refl, refl, going-none args.text.now args.from _ _ _ pre.0 (search rules))
+
+pub later_line-lead-requires : goal.later_line-lead-requires
+later_line-lead-requires c =
+    let args = c.args in
+    let loop = c.loop-at in
+    let next-line = c.next_line-part in
+    (loop.invariant.4.is_sound, rw next-line.ensures (omega (arith, part-short args.text.now loop.at, loop.invariant.3)), omega (arith, loop.invariant.4.few, loop.invariant.4.inside, loop.invariant.2))
+
+pub overflow_add-at : goal.overflow_add-at
+overflow_add-at c =
+    let args = c.args in
+    let loop = c.loop-at in
+    let next-line = c.next_line-part in
+    rw next-line.ensures (omega (arith, part-inside args.text.now loop.at loop.invariant.4.inside))
+
+pub overflow_add-line : goal.overflow_add-line
+overflow_add-line c =
+    let loop = c.loop-at in
+    omega (arith, loop.invariant.4.short, loop.invariant.4.inside)
+
+pub returns-then-not-is_on : goal.returns-then-not-is_on
+returns-then-not-is_on c =
+    let loop = c.loop-at in
+    let next-line = c.next_line-part in
+    let later-line = c.later_line-lead in
+    let is-on = c.is_on in
+    going-halts loop.invariant.4 next-line.ensures (omega arith) later-line.ensures.1 (sym is-on.ensures ∙ c.if-not-is_on.true)
+
+pub loop-at-smaller : goal.loop-at-smaller
+loop-at-smaller c =
+    let args = c.args in
+    let loop = c.loop-at in
+    let next-line = c.next_line-part in
+    rw next-line.ensures (omega (arith, part-some args.text.now loop.at (omega arith)))
+
+pub loop-at-preserved : goal.loop-at-preserved
+loop-at-preserved c =
+    let loop = c.loop-at in
+    let next-line = c.next_line-part in
+    let later-line = c.later_line-lead in
+    let is-on = c.is_on in
+    let if1 = c.if-not-is_on in
+    (search rules, search rules, search rules, search rules, going_next loop.invariant.4 next-line.ensures (omega arith) later-line.ensures.1 (sym is-on.ensures ∙ if1.false) later-line.ensures.0 _ c.count_of-count.ensures)
+
+pub returns : goal.returns
+returns c = going-over c.loop-at.invariant.4 (omega arith)

@@ -1,0 +1,21 @@
+-- By whether the stores are sound.
+use mathlib.Core.Path.{refl, ap, sym, ◌∙◌}
+use Rattle.steps.specs.Runs.{put, left_by, step_on}
+use Rattle.steps.proofs.Works.{unsound-told}
+use Rattle.session.proofs.put.Goals as goal
+
+pub put_sound-requires : goal.put_sound-requires
+put_sound-requires c = sym c.is_sound.ensures ∙ c.if-is_sound.true
+
+pub returns-then-is_sound : goal.returns-then-is_sound
+unfolding step_on
+returns-then-is_sound c = ap left_by c.put_sound.ensures
+
+pub shape_of-store : goal.shape_of-store
+shape_of-store c = refl
+
+pub shape_of-records : goal.shape_of-records
+shape_of-records c = refl
+
+pub returns : goal.returns
+returns c = unsound-told (put _) refl c.none.ensures (sym c.is_sound.ensures ∙ c.if-is_sound.false)
