@@ -16,13 +16,13 @@ use Rattle.steps.specs.Mirrored.{Step}
 
 -- ---- one field
 
--- by the number v in it; `feature` is the kind of Feature that the tag before it calls for
+-- by the number v in it; `called` is the kind of Feature that the tag before it calls for
 unfoldable pub by_rule : Rule → Kind → ℕ → Act
-by_rule Any feature v = keep
-by_rule (Only x) feature v = pick (eqb v x) keep refuse
-by_rule (To k) feature v = pick (eqb v 0) refuse (follow k)
-by_rule (ToOrNull k) feature v = pick (eqb v 0) keep (follow k)
-by_rule ToFeature feature v = pick (eqb v 0) refuse (follow feature)
+by_rule Any called v = keep
+by_rule (Only x) called v = pick (eqb v x) keep refuse
+by_rule (To k) called v = pick (eqb v 0) refuse (follow k)
+by_rule (ToOrNull k) called v = pick (eqb v 0) keep (follow k)
+by_rule ToFeature called v = pick (eqb v 0) refuse (follow called)
 
 -- by the tag that stands in the four bytes before a place of the slice
 abbrev pub feature_at : List ℕ → ℕ → Kind

@@ -5,8 +5,6 @@ use mathlib.Core.List.{List, [], ◌∷◌}
 use mathlib.Core.Bool.{true}
 use native.Mathlib.Omega.{arith}
 use borrow.Author.Tests.{ne_eqb}
-use denote.Enum.Declared.{tag_of}
-use types.Run.{OneOf, miss}
 use lib.Dec.{eqb}
 use Rattle.answer.specs.Number.{number, named, no_overflow}
 use Rattle.answer.specs.declared.ObjectId.{ObjectId}
@@ -24,7 +22,6 @@ use Rattle.gsub.specs.declared.Scope.{Scope}
 use Rattle.gsub.specs.Promote.{trial_ops}
 use Rattle.gsub_read.specs.declared.answers.ReadAnswer.{ReadAnswer}
 use Rattle.gsub_read.specs.declared.answers.ReadAnswer.TheVariants.{Done, BadTable, Refused}
-use Rattle.gsub_read.specs.contracts.answers.ReadAnswer.{the_type}
 use Rattle.gsub_read.specs.Read.{ReadLeft, read_left, told_by_read, ops_step}
 use Rattle.gsub_read.proofs.Listed.{read-begun}
 use Rattle.gsub_promote.specs.declared.answers.PromoteAnswer.{PromoteAnswer}
@@ -33,11 +30,6 @@ use Rattle.gsub_promote.specs.declared.trial.Tried.TheVariants.{Ended}
 use Rattle.gsub_promote.specs.Search.{Lent, lent, Trial, pack_of, trial}
 use Rattle.gsub_promote.proofs.Afresh.{read-never}
 use Rattle.gsub_promote.specs.Tried.{unread_of, tried_of, TriedBy}
-
-pub not_done : (a : ReadAnswer) → OneOf (1 ∷ 2 ∷ []) (tag_of the_type a) → (i : ObjectId) (t : Tally) → a ≡ Done i t → ⊥
-not_done (Done i t) h j u e = miss (1 ∷ 2 ∷ []) 0 tt h
-not_done (BadTable p) h j u e = let z : ◌≡◌ {A = ℕ} 0 1 = cc in omega arith
-not_done (Refused why) h j u e = let z : ◌≡◌ {A = ℕ} 0 1 = cc in omega arith
 
 -- only 11 names a link
 named_none : (why : Refusal) → (number why ≡ 11 → ⊥) → named why ≡ no_overflow

@@ -7,7 +7,6 @@ use lib.ListN.{length}
 use Rattle.gsub.specs.Ops.{Op}
 use Rattle.gsub_walk.specs.declared.walk.Walk.{Walk}
 use Rattle.gsub_walk.specs.declared.walk.Move.{Move}
-use Rattle.gsub_walk.specs.declared.walk.Move.TheVariants as Move
 use Rattle.gsub_walk.specs.Rest.{rest_of, Standing, Goes, MovesBy}
 use Rattle.gsub_show.specs.declared.visits.Visited.{Visited}
 use Rattle.gsub_show.specs.declared.visits.Counted.{Counted}

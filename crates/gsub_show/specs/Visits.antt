@@ -1,6 +1,5 @@
 -- What is counted of a walk.
 use Rattle.gsub_walk.specs.declared.walk.Move.{Move}
-use Rattle.gsub_walk.specs.declared.walk.Move.TheVariants as Move
 use Rattle.gsub_show.specs.declared.visits.Counted.{Counted}
 use Rattle.gsub_show.specs.declared.visits.Counted.TheVariants.{On, Over}
 

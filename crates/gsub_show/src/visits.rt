@@ -44,6 +44,7 @@ fn closed(v: Visited) -> Visited {
 }
 
 // With one move more.
+#[tactic(auto, unfolding(crate::specs::Visits::GoesOn))]
 fn with_move(v: Visited, m: Move) -> Counted
     ensures { GoesOn m result }
 {

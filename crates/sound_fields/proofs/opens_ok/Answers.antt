@@ -27,7 +27,7 @@ returns-then-not-span_ok c =
     let l = c.loop-d in
     let a = c.args in
     let looked : object_ok (closed_count a.records.now) (open_at a.store.now a.records.now (l.d - 1)) ≡ c.span_ok.result =
-        sym (rw (c.read_counts-k.ensures.closed_is, c.open_span.ensures.is) at c.span_ok.ensures) in
+    sym (rw (c.read_counts-k.ensures.closed_is, c.open_span.ensures.is) at c.span_ok.ensures) in
     sym (l.invariant.1 ∙ for_all-next _ l.d c.loop-d-test.true ∙ rw (looked ∙ c.if-not-span_ok.true))
 
 pub loop-d-preserved : goal.loop-d-preserved
@@ -35,7 +35,7 @@ loop-d-preserved c =
     let l = c.loop-d in
     let a = c.args in
     let looked : object_ok (closed_count a.records.now) (open_at a.store.now a.records.now (l.d - 1)) ≡ c.span_ok.result =
-        sym (rw (c.read_counts-k.ensures.closed_is, c.open_span.ensures.is) at c.span_ok.ensures) in
+    sym (rw (c.read_counts-k.ensures.closed_is, c.open_span.ensures.is) at c.span_ok.ensures) in
     (search rules, l.invariant.1 ∙ for_all-next _ l.d c.loop-d-test.true ∙ rw (looked ∙ c.if-not-span_ok.false))
 
 pub returns : goal.returns

@@ -23,7 +23,7 @@ pub returns-then-field_hopeless : goal.returns-then-field_hopeless
 returns-then-field_hopeless c =
     let l = c.loop-left in
     let looked : hopeless c.args.size (link_at c.args.links.now l.i).slot ≡ c.field_hopeless.result =
-        ap (λ (x : Link). hopeless c.args.size x.slot) (sym c.link_at.ensures.is) ∙ sym c.field_hopeless.ensures in
+    ap (λ (x : Link). hopeless c.args.size x.slot) (sym c.link_at.ensures.is) ∙ sym c.field_hopeless.ensures in
     let z = looked ∙ c.if-field_hopeless.true in
     sym (l.invariant.2 ∙ hopeless-next _ l.i (search rules) _ ∙ rw z)
 
@@ -31,7 +31,7 @@ pub loop-left-preserved : goal.loop-left-preserved
 loop-left-preserved c =
     let l = c.loop-left in
     let looked : hopeless c.args.size (link_at c.args.links.now l.i).slot ≡ c.field_hopeless.result =
-        ap (λ (x : Link). hopeless c.args.size x.slot) (sym c.link_at.ensures.is) ∙ sym c.field_hopeless.ensures in
+    ap (λ (x : Link). hopeless c.args.size x.slot) (sym c.link_at.ensures.is) ∙ sym c.field_hopeless.ensures in
     let z = looked ∙ c.if-field_hopeless.false in
     (search rules, slots-rest _ l.i (search rules) l.invariant.1, l.invariant.2 ∙ hopeless-next _ l.i (search rules) _ ∙ rw z)
 
