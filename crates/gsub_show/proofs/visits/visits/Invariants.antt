@@ -1,4 +1,5 @@
-use Rattle.std.proofs.Common.{length}
+-- The walk stands after each move, and less of it is left.
+use lib.ListN.{length}
 use Rattle.gsub_walk.specs.Rest.{rest_of, Standing}
 use Rattle.gsub_show.proofs.visits.visits.Given as goal
 

@@ -1,0 +1,5 @@
+-- The answer of the proved call as seven numbers, beside what it left.
+use Rattle.capi.proofs.reading.scoterlime_read_gsub_whole.Goals as goal
+
+pub returns : goal.returns
+returns c = rw c.tell_read.ensures c.read_gsub_whole.ensures
