@@ -1,5 +1,5 @@
 /* A sign's table, its objects written in one call: a leaf, linked by two objects, which the root links; packed. Then a batch that ends early.
- * Built and run from the repository's folder, after rt staticlib capi:
+ * Built and run from the repository's folder, after tools/library:
  *     cc -Iinclude examples/batch.c target/staticlib/libcapi.a -o batch && ./batch */
 #include "scoterlime.h"
 #include <stdio.h>

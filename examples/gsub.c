@@ -1,5 +1,5 @@
 /* A GSUB table from standard input, read into a session and packed: how many objects it has, equal ones counted once, and how long it is then.
- * Built and run from the repository's folder, after rt staticlib capi:
+ * Built and run from the repository's folder, after tools/library:
  *     cc -Iinclude examples/gsub.c target/staticlib/libcapi.a -o gsub && ./gsub < crates/repack/stdin */
 #include "scoterlime.h"
 #include <stdio.h>

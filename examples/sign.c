@@ -1,5 +1,5 @@
 /* A sign's table: one leaf shared by two middle objects under one root, packed; then a refusal; then a table that packs only with copies.
- * Built and run from the repository's folder, after rt staticlib capi:
+ * Built and run from the repository's folder, after tools/library:
  *     cc -Iinclude examples/sign.c target/staticlib/libcapi.a -o sign && ./sign */
 #include "scoterlime.h"
 #include <stdio.h>

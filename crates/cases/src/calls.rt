@@ -1,6 +1,6 @@
 // The eight calls, each by its letter.
+use crate::areas::{at_most, filled};
 use crate::lines::{Four, unhex};
-use crate::memory::{at_most, filled};
 use answer::ObjectId;
 use report::{show_bytes, show_longs, show_words};
 

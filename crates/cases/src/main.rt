@@ -5,15 +5,15 @@
 // `t` tally, `a` pack with the root's id, the copies allowed and the lengths of the output and the work memory, `v` both stores.
 #![tactic(auto)]
 
+mod areas;
 mod calls;
 mod lines;
-mod memory;
 
 ghost use Rattle.std.specs.Prelude.{◌≤◌, ◌<◌, length};
 
+use areas::{at_most, filled};
 use calls::call;
 use lines::{arguments, line_end};
-use memory::{at_most, filled};
 use report::text;
 
 // How much of standard input is taken.

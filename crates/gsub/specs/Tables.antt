@@ -33,7 +33,7 @@ script = one (offset16_or_null LangSys ∷ uint16 ∷ []) ∷ many (tag ∷ offs
 abbrev pub lang_sys : Shape
 lang_sys = one (is 0 ∷ uint16 ∷ uint16 ∷ []) ∷ many (uint16 ∷ []) ∷ []
 
--- featureCount; featureTag, feature_offset
+-- featureCount; featureTag, featureOffset
 abbrev pub feature_list_of : Field → Shape
 feature_list_of feature = one (uint16 ∷ []) ∷ many (tag ∷ feature ∷ []) ∷ []
 
@@ -41,7 +41,7 @@ feature_list_of feature = one (uint16 ∷ []) ∷ many (tag ∷ feature ∷ []) 
 abbrev pub feature_of : Field → Shape
 feature_of params = one (params ∷ uint16 ∷ []) ∷ many (uint16 ∷ []) ∷ []
 
--- lookup_count; lookupOffsets
+-- lookupCount; lookupOffsets
 abbrev pub lookup_list : Scope → Shape
 lookup_list s = one (uint16 ∷ []) ∷ many (offset16 (Lookup s) ∷ []) ∷ []
 

@@ -196,7 +196,7 @@ whole_cases =
     ∷ stops (tagged 99 118 48 48 (0 ∷ 0 ∷ 1 ∷ 0 ∷ [])) 42
     ∷ accepted (set stylistic 43 0)
     ∷ stops (set stylistic 75 1) 74
-    -- a feature_offset may not be NULL, nor may those of variations; more than 65,535 of these
+    -- a featureOffset may not be NULL, nor may those of variations; more than 65,535 of these
     ∷ stops (set stylistic 41 0) 40
     ∷ stops (set variable 89 0) 86
     ∷ stops (set variable 93 0) 90

@@ -99,7 +99,7 @@ look_from scope b objects links (suc more) n x =
     let t = trial scope b objects links n x in
     pick (overflows t) (look_from scope b objects links more (suc n) (left_by t)) (ended objects links n x t)
 
--- lookup_count of the LookupList
+-- lookupCount of the LookupList
 abbrev pub lookup_count : List ℕ → ℕ
 lookup_count b = word_at b (word_at b 8)
 

@@ -16,14 +16,14 @@ use gsub::{Params, Scope};
 const SINGLE_FEATURE_LIST_ROW: [Run; 2] = [
     // featureCount
     [ONE, 1, 2, UINT16, NONE, NONE, NONE, NONE, NONE],
-    // featureTag, feature_offset
+    // featureTag, featureOffset
     [MANY, 2, 6, TAG, TO + FEATURE, NONE, NONE, NONE, NONE],
 ];
 
 const FEATURE_LIST_ROW: [Run; 2] = [
     // featureCount
     [ONE, 1, 2, UINT16, NONE, NONE, NONE, NONE, NONE],
-    // featureTag, feature_offset
+    // featureTag, featureOffset
     [MANY, 2, 6, TAG, FEATURE_OFFSET, NONE, NONE, NONE, NONE],
 ];
 

@@ -71,6 +71,9 @@ module _ (out work : List ℕ) where
 
   none_left : (n : ℕ) (t : Turn) (s : Stores) → Ready t s → Line out work n [] [] t s
   unfolding says_from calls_from job_run
+  none_left n (on bytes_due) s h = elim h [ ]
+  none_left n (on (objects_due _)) s h = elim h [ ]
+  none_left n (on (links_due _ _)) s h = elim h [ ]
   none_left n (on (piece_due a)) s h = right-none out work breach (n + 1) s
   none_left n (on (writing a ids)) s h = right-none out work breach (n + 1) s
   none_left n (stop why) s h = line-stop out work n [] why s
@@ -78,6 +81,9 @@ module _ (out work : List ℕ) where
 
   some_left : (l : List ℕ) (ls : List (List ℕ)) (n : ℕ) → ((t : Turn) (s : Stores) → Ready t s → Line out work (n + 1) ls [] t s) → (t : Turn) (s : Stores) → Ready t s → Line out work n (l ∷ ls) [] t s
   unfolding says_from calls_from job_run line_calls turn
+  some_left l ls n follows (on bytes_due) s h = elim h [ ]
+  some_left l ls n follows (on (objects_due _)) s h = elim h [ ]
+  some_left l ls n follows (on (links_due _ _)) s h = elim h [ ]
   some_left l ls n follows (on (piece_due a)) s h = first-line (n + 1) ls follows (item l) l h
   some_left l ls n follows (on (writing a ids)) s h = next-line (n + 1) ls follows (item l) l ids h
   some_left l ls n follows (stop why) s h = line-stop out work n (l ∷ ls) why s

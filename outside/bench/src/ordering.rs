@@ -24,7 +24,7 @@ use std::time::{Duration, Instant};
 const LONG: Duration = Duration::from_secs(6);
 
 const COUNTS: [usize; 2] = [4_000, 16_000];
-const ROUNDS: usize = 120;
+const ROUNDS: usize = 24;
 const TURNS: usize = 2;
 
 /// Different graphs that are packed in turn.

@@ -16,7 +16,7 @@ impl Program {
         };
         assert!(
             path.is_file(),
-            "{} is not there: run `rt check job` in the repository first",
+            "{} is not there: run `tools/program job` in the repository first",
             path.display()
         );
         Program(path)
