@@ -17,7 +17,7 @@ use Rattle.steps.specs.Steps.{closing, close_step, innermost_in, twin_in}
 use Rattle.steps.specs.Runs.{StoreCall, stores, step_on}
 use Rattle.steps.proofs.Tallies.{length-closed}
 use Rattle.session_hash.specs.Hash.{hash_of}
-use Rattle.session_indexed.proofs.Stays.{closed_in, quiet, closes-keep, still-sound, quiet-closed, closed-sound, closed-long, closed-nothing, closed-closes}
+use Rattle.session_slots.proofs.Closes.{closed_in, quiet, closes-keep, still-sound, quiet-closed, closed-sound, closed-long, closed-nothing, closed-closes}
 use Rattle.session_slots.specs.Slots.{slots, probes, slot_from, slot_of, Slotted, added}
 use Rattle.session_slots.specs.Close.{Slotting, SlottedBy, More}
 use Rattle.session_slots.proofs.Places.{slotted-none, slotted-more}

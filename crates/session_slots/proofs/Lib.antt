@@ -1,3 +1,4 @@
 pub mod Places
 pub mod Passes
+pub mod Closes
 pub mod Keeps
