@@ -1,16 +1,16 @@
--- A turn of each loop: what is left to write, what is left to read; and the bytes of a short field, without a loop.
+-- A turn of the loop that writes: what is left to write; and the bytes of a short field, without a loop.
 use mathlib.Core.Path.{◌≡◌, sym, ap, ◌∙◌}
-use Prim.Native.Nat.{ℕ, zero, suc, ◌+◌, ◌-◌, ◌*◌, ◌/◌, ◌%◌, ◌≤◌, ◌<◌}
+use Prim.Native.Nat.{ℕ, zero, suc, ◌+◌, ◌-◌, ◌/◌, ◌%◌, ◌^◌, ◌≤◌, ◌<◌}
 use mathlib.Core.List.{List, [], ◌∷◌}
-use native.Mathlib.Nat.{add-zero}
+use native.Mathlib.Nat.{add-zero, div-div-eq-div-mul}
 use native.Mathlib.Omega.{arith}
-use lib.ListN.{length, get_or, set}
+use lib.ListN.{length, set}
 use lib.Seq.{set-set}
-use Rattle.lists.specs.Lists.{part, over}
+use Rattle.lists.specs.Lists.{over}
 use Rattle.lists.proofs.Over.{length_over}
 use Rattle.lists.proofs.Overs.{over-then}
-use Rattle.lists.proofs.Runs.{part-first, over_none, over_first, over_last}
-use Rattle.big_endian.specs.BigEndian.{big_endian, read_from}
+use Rattle.lists.proofs.Runs.{over_none, over_first, over_last}
+use Rattle.big_endian.specs.BigEndian.{big_endian}
 use Rattle.big_endian.proofs.Laws.{length-big}
 
 -- the lowest byte of what is left goes last, the others before it
@@ -50,26 +50,12 @@ high-first at (suc w) n l h =
 
 -- four bytes, the highest first: those that the width has no room for fall on the field's first place and are stored over
 pub short-written : (at w n : ℕ) (l : List ℕ) → 0 < w → w ≤ 4 → at + w ≤ length l
-    → set (set (set (set l at (n / 256 / 256 / 256 % 256)) (at + (w - 3)) (n / 256 / 256 % 256)) (at + (w - 2)) (n / 256 % 256)) (at + (w - 1)) (n % 256)
+    → set (set (set (set l at (n / 256 ^ 3 % 256)) (at + (w - 3)) (n / 256 ^ 2 % 256)) (at + (w - 2)) (n / 256 % 256)) (at + (w - 1)) (n % 256)
     ≡ over at (big_endian w n) l
 unfolding high_first
 short-written at zero n l p q h = absurd (omega arith)
 short-written at (suc zero) n l p q h = simp (add-zero, set-set) (rw add-zero at (high-first at 1 n l h))
 short-written at (suc (suc zero)) n l p q h = simp (add-zero, set-set) (rw add-zero at (high-first at 2 n l h))
-short-written at (suc (suc (suc zero))) n l p q h = simp (add-zero, set-set) (rw add-zero at (high-first at 3 n l h))
-short-written at (suc (suc (suc (suc zero)))) n l p q h = rw add-zero at (high-first at 4 n l h)
+short-written at (suc (suc (suc zero))) n l p q h = simp (add-zero, set-set) (simp (add-zero, div-div-eq-div-mul) at (high-first at 3 n l h))
+short-written at (suc (suc (suc (suc zero)))) n l p q h = simp (add-zero, div-div-eq-div-mul) at (high-first at 4 n l h)
 short-written at (suc (suc (suc (suc (suc w))))) n l p q h = absurd (omega arith)
-
--- the next byte is read on to what was read
-pub read-turn : (at w i n : ℕ) (s : List ℕ) → i < w → at + w ≤ length s
-    → read_from n (part (at + i) (at + w) s) ≡ read_from (n * 256 + get_or s (at + i) 0) (part (at + (i + 1)) (at + w) s)
-unfolding read_from
-read-turn at w i n s h k =
-    let f : at + i + 1 ≡ at + (i + 1) = omega arith in
-    rw (part-first (at + i) (at + w) s (omega arith) (omega arith), f)
-
-pub read-end : (at w i n : ℕ) (s : List ℕ) → w ≤ i → read_from n (part (at + i) (at + w) s) ≡ n
-unfolding read_from
-read-end at w i n s h =
-    let f : at + w - (at + i) ≡ 0 = omega arith in
-    rw f

@@ -15,14 +15,11 @@ pub fn write(out: &mut [u8], at: usize, width: usize, n: u64)
     requires { at + width ≤ length out.old }
     ensures { out.new ≡ over at (big_endian width n) out.old }
 {
-    if SHORT < width {
-        write_long(out, at, width, n);
-        return;
+    match width {
+        0 => {}
+        1..=SHORT => write_short(out, at, width, n),
+        _ => write_long(out, at, width, n),
     }
-    if width == 0 {
-        return;
-    }
-    write_short(out, at, width, n);
 }
 
 // A field of any width, from the lowest byte up.
@@ -31,10 +28,8 @@ fn write_long(out: &mut [u8], at: usize, width: usize, n: u64)
     ensures { out.new ≡ over at (big_endian width n) out.old }
 {
     let mut rest = n;
-    let mut left = width;
-    while 0 < left {
-        left -= 1;
-        out[at + left] = (rest % 256) as u8;
+    for k in (0..width).rev() {
+        out[at + k] = (rest % 256) as u8;
         rest = rest / 256;
     }
 }
@@ -45,13 +40,11 @@ fn write_short(out: &mut [u8], at: usize, width: usize, n: u64)
     requires { (at + width ≤ length out.old) × (0 < width) × (width ≤ 4) }
     ensures { out.new ≡ over at (big_endian width n) out.old }
 {
-    let second = n / 256;
-    let third = second / 256;
-    let fourth = third / 256;
-    out[at] = (fourth % 256) as u8;
-    out[at + less(width, 3)] = (third % 256) as u8;
-    out[at + less(width, 2)] = (second % 256) as u8;
-    out[at + (width - 1)] = (n % 256) as u8;
+    let [.., fourth, third, second, first] = n.to_be_bytes();
+    out[at] = fourth;
+    out[at + width.saturating_sub(3)] = third;
+    out[at + width.saturating_sub(2)] = second;
+    out[at + (width - 1)] = first;
 }
 
 // The number in the field of `width` bytes at `at`.
@@ -60,10 +53,8 @@ pub fn read(s: &[u8], at: usize, width: usize) -> u64
     ensures { result ≡ read_big (part at (at + width) s.now) }
 {
     let mut n: u64 = 0;
-    let mut i = 0;
-    while i < width {
-        n = n * 256 + wide(s[at + i]);
-        i += 1;
+    for byte in &s[at..at + width] {
+        n = n * 256 + u64::from(*byte);
     }
     n
 }
@@ -74,17 +65,4 @@ pub fn capacity(width: usize) -> u64
     ensures { result ≡ capacity width }
 {
     1u64 << (BYTE_BITS * width)
-}
-
-// a less b, and 0 where b is more.
-fn less(a: usize, b: usize) -> usize
-    ensures { result ≡ a - b }
-{
-    if b < a { a - b } else { 0 }
-}
-
-fn wide(x: u8) -> u64
-    ensures { result ≡ x }
-{
-    x as u64
 }

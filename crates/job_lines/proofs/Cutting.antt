@@ -1,30 +1,54 @@
 -- The first line of what is left of a text, and the lines behind it.
-use mathlib.Core.Path.{◌≡◌, refl}
+use mathlib.Core.Path.{◌≡◌, refl, sym, ◌∙◌}
 use Prim.Native.Nat.{ℕ, suc, ◌+◌, ◌-◌, ◌≤◌, ◌<◌}
 use mathlib.Core.List.{List, [], ◌∷◌}
-use mathlib.Core.Bool.{Bool, true, false}
+use mathlib.Core.Bool.{Bool, true, false, not, cond}
 use native.Mathlib.Omega.{arith}
 use lib.Dec.{eqb, ltb}
-use lib.ListN.{length, take, drop, get_or, length-drop, drop_of_length-le}
+use lib.ListN.{length, take, drop, length-drop}
 use lib.Seq.{length-take-le}
-use borrow.Author.Tests.{eq-eqb, ne_eqb, lt-ltb, le-ltb, ltb-true, ltb-false}
+use borrow.Author.Tests.{lt-ltb, le-ltb, ltb-true, ltb-false}
+use Rattle.std.specs.Prelude.{Option, Some, None}
+use Rattle.std.specs.List.{position_or_len}
 use Rattle.lists.specs.Lists.{pick}
-use Rattle.lists.proofs.Runs.{drop-first}
 use Rattle.job_lines.specs.Lines.{line_feed, in_front, cut, line_length, first_line, past_line, between}
 
--- ---- how long it is
-module _ (i : ℕ) (t : List ℕ) where
-  pub line-none : length t ≤ i → line_length (drop i t) ≡ 0
-  unfolding line_length
-  line-none h = rw (drop_of_length-le t h)
+-- ---- how long it is: up to the first line feed, or to the end
+abbrev feeds : List ℕ → ℕ
+feeds t = position_or_len (λ c. eqb c line_feed) t
 
-  pub line-feed : i < length t → get_or t i 0 ≡ line_feed → line_length (drop i t) ≡ 1
-  unfolding line_length
-  line-feed h e = rw (drop-first i t h, eq-eqb (get_or t i 0) line_feed e)
+line-feed : (t : List ℕ) → feeds t < length t → line_length t ≡ feeds t + 1
+unfolding line_length
+line-feed [] h = absurd (omega arith)
+line-feed (c ∷ t) h = by (eqb c line_feed) h (line-feed t)
+  where
+    by : (b : Bool) → cond (not b) (1 + feeds t) 0 < suc (length t) → (feeds t < length t → line_length t ≡ feeds t + 1) → pick b 1 (suc (line_length t)) ≡ cond (not b) (1 + feeds t) 0 + 1
+    by true h e = refl
+    by false h e = omega (arith, e (omega arith))
 
-  pub line-more : i < length t → (get_or t i 0 ≡ line_feed → ⊥) → line_length (drop i t) ≡ suc (line_length (drop (i + 1) t))
-  unfolding line_length
-  line-more h e = rw (drop-first i t h, ne_eqb (get_or t i 0) line_feed e)
+line-end : (t : List ℕ) → length t ≤ feeds t → line_length t ≡ length t
+unfolding line_length
+line-end [] h = refl
+line-end (c ∷ t) h = by (eqb c line_feed) h (line-end t)
+  where
+    by : (b : Bool) → suc (length t) ≤ cond (not b) (1 + feeds t) 0 → (length t ≤ feeds t → line_length t ≡ length t) → pick b 1 (suc (line_length t)) ≡ suc (length t)
+    by true h e = absurd (omega arith)
+    by false h e = omega (arith, e (omega arith))
+
+module _ (t : List ℕ) {r : Option ℕ} (e : r ≡ cond (ltb (feeds t) (length t)) (Some (feeds t)) None) where
+  pub line-some : (n : ℕ) → r ≡ Some n → line_length t ≡ n + 1
+  line-some n f = by (ltb (feeds t) (length t)) refl (sym f ∙ e)
+    where
+      by : (b : Bool) → ltb (feeds t) (length t) ≡ b → Some n ≡ cond b (Some (feeds t)) None → line_length t ≡ n + 1
+      by true g k = let q : n ≡ feeds t = cc in omega (arith, line-feed t (ltb-true (feeds t) (length t) g))
+      by false g k = cc
+
+  pub line-none : r ≡ None → line_length t ≡ length t
+  line-none f = by (ltb (feeds t) (length t)) refl (sym f ∙ e)
+    where
+      by : (b : Bool) → ltb (feeds t) (length t) ≡ b → None ≡ cond b (Some (feeds t)) None → line_length t ≡ length t
+      by true g k = cc
+      by false g k = line-end t (ltb-false (feeds t) (length t) g)
 
 pub line-most : (t : List ℕ) → line_length t ≤ length t
 unfolding line_length
@@ -57,7 +81,7 @@ line-between at t = by (ltb (length t) at) refl
     by : (b : Bool) → ltb (length t) at ≡ b → between at (past_line t at) t ≡ first_line (drop at t)
     by true e =
         let h : length t < at = ltb-true (length t) at e in
-        let z : n ≡ 0 = line-none at t (omega arith) in
+        let z : n ≡ 0 = omega (arith, line-most (drop at t), length-drop at t) in
         rw (z, lt-ltb (length t) (at + 0) (omega arith))
     by false e =
         let h : at ≤ length t = ltb-false (length t) at e in

@@ -4,7 +4,7 @@
 #![tactic(auto)]
 
 ghost use Rattle.std.specs.Prelude.{◌≡◌, drop};
-ghost use Rattle.job_lines.specs.Lines.{past_line, first_line, between};
+ghost use Rattle.job_lines.specs.Lines.{line_length, past_line, first_line, between};
 ghost use Rattle.job_lines.specs.Reader.{moved};
 
 pub const LINE_FEED: u8 = b'\n';
@@ -22,31 +22,31 @@ pub struct Line<'a> {
     pub rest: Lines<'a>,
 }
 
+// How long the first line is, with its line feed; the whole length where no line feed is left.
+fn line_length(rest: &[u8]) -> usize
+    ensures { result ≡ line_length rest.now }
+{
+    match rest.iter().position(|c| *c == LINE_FEED) {
+        Some(n) => n + 1,
+        None => rest.len(),
+    }
+}
+
 // The place past the next line feed from `at` on; the text's end where no line feed is left, and `at` itself past that.
 pub fn past_line(text: &[u8], at: usize) -> usize
     ensures { result ≡ past_line text.now at }
 {
-    let mut i = at;
-    while i < text.len() {
-        if text[i] == LINE_FEED {
-            return i + 1;
-        }
-        i += 1;
+    if text.len() < at {
+        return at;
     }
-    i
+    at + line_length(&text[at..])
 }
 
 // The text from `at` up to `end`; nothing where that is not inside it.
 pub fn between(text: &[u8], at: usize, end: usize) -> &[u8]
     ensures { result.now ≡ between at end text.now }
 {
-    if text.len() < end {
-        return &text[0..0];
-    }
-    if end < at {
-        return &text[0..0];
-    }
-    &text[at..end]
+    text.get(at..end).unwrap_or(&[])
 }
 
 impl<'a> Lines<'a> {

@@ -1,33 +1,51 @@
--- The loops that write: what is left to write gives the same after a turn as before it (`-next`), and leaves the slice as it is once all is written (`-all`).
-use mathlib.Core.Path.{◌≡◌, ◌∙◌}
-use Prim.Native.Nat.{ℕ, suc, ◌+◌, ◌-◌, ◌≤◌, ◌<◌}
-use mathlib.Core.List.{List}
+-- A turn of each loop that writes, over lists of any type; and what the loops write over a list of numbers, in the words of Lists.
+use mathlib.Core.Path.{◌≡◌, refl, sym, ap, ◌∙◌}
+use mathlib.Core.List.{List, [], ◌∷◌, ◌++◌, append_assoc}
+use Prim.Native.Nat.{ℕ, zero, suc, ◌+◌, ◌-◌, ◌≤◌, ◌<◌}
 use native.Mathlib.Omega.{arith}
-use lib.ListN.{length, get_or, set, replicate}
+use lib.ListN.{length, take, drop, get_or, set, replicate, length-set, length-drop, length-replicate}
+use lib.Seq.{take-suc, take-set-le, drop-cons, drop-set-add, drop-set-lt, get_or-drop, get_or-set_same}
 use Rattle.lists.specs.Lists.{part, over}
-use Rattle.lists.proofs.Runs.{length_part, part-last, part-set, over_none, over_first, over_last}
+use Rattle.lists.proofs.Runs.{length_part}
 
--- zeros from i up to e are left
-module _ (e i : ℕ) (s : List ℕ) where
-  pub clear_next : i < e → e ≤ length s → over (i + 1) (replicate (e - (i + 1)) 0) (set s i 0) ≡ over i (replicate (e - i) 0) s
-  clear_next h k =
-      let n : e - i ≡ suc (e - (i + 1)) = omega arith in rw n (over_first i 0 (replicate (e - (i + 1)) 0) s (omega arith))
+module _ {A : Type 0} where
+  -- one more of the first i written
+  pub clear_next : (z : A) (i : ℕ) (l : List A) → i < length l → set (replicate i z ++ drop i l) i z ≡ replicate (suc i) z ++ drop (suc i) l
+  clear_next z zero [] h = absurd (omega arith)
+  clear_next z zero (x ∷ l) h = refl
+  clear_next z (suc i) [] h = absurd (omega arith)
+  clear_next z (suc i) (x ∷ l) h = ap (λ (m : List A). z ∷ m) (clear_next z i l (omega arith))
 
-  pub clear-all : e ≤ i → over i (replicate (e - i) 0) s ≡ s
-  clear-all h = let n : e - i ≡ 0 = omega arith in rw n (over_none i s)
+  -- the last of the first n from a on moved up to b: the first i are left
+  module _ (a b n i : ℕ) (x : A) (s : List A) (e : n ≡ suc i) (h : a ≤ b) (k : b + i < length s) (read : x ≡ get_or s (a + i) x) where
+    pub move_next : take b (set s (b + i) x) ++ (take i (drop a (set s (b + i) x)) ++ drop (b + i) (set s (b + i) x))
+        ≡ take b s ++ (take n (drop a s) ++ drop (b + n) s)
+    move_next =
+        let f : b + i ≡ a + (b - a + i) = omega arith in
+        let g : b + n ≡ suc (b + i) = omega arith in
+        let m : i < length (drop a s) = rw length-drop (omega arith) in
+        let in_range : b + i < length (set s (b + i) x) = rw length-set k in
+        let front = take-set-le b s (b + i) x (omega arith) in
+        let middle : take i (drop a (set s (b + i) x)) ≡ take i (drop a s) =
+        rw f (ap (take i) (drop-set-add a s (b - a + i) x) ∙ take-set-le i (drop a s) (b - a + i) x (omega arith)) in
+        let back = drop-cons (set s (b + i) x) (b + i) x in_range
+        ∙ ap (λ (y : A). y ∷ drop (suc (b + i)) (set s (b + i) x)) (get_or-set_same s (b + i) x x k)
+        ∙ ap (λ (l : List A). x ∷ l) (drop-set-lt (suc (b + i)) s (b + i) x (omega arith)) in
+        let last : take (suc i) (drop a s) ≡ take i (drop a s) ++ (x ∷ []) =
+        take-suc (drop a s) i x m ∙ ap (λ (y : A). take i (drop a s) ++ (y ∷ [])) (get_or-drop a s i x ∙ sym read) in
+        rw (front, middle, back, g, e, last, append_assoc)
 
--- the first i numbers from a on are left to move up to b
-module _ (a b i : ℕ) (s : List ℕ) where
-  pub move-next : 0 < i → a ≤ b → b + i ≤ length s
-      → let s' = set s (b + (i - 1)) (get_or s (a + (i - 1)) 0) in
-      over b (part a (a + (i - 1)) s') s' ≡ over b (part a (a + i) s) s
-  move-next z h k =
-      let j : ℕ = i - 1 in
-      let x : ℕ = get_or s (a + j) 0 in
-      let n : a + i ≡ a + j + 1 = omega arith in
-      let m : length (part a (a + j) s) ≡ j = length_part a (a + j) s (omega arith) ∙ omega arith in
-      rw (n, part-last a (a + j) s (omega arith) (omega arith), part-set a (a + j) (b + j) x s (omega arith) (omega arith))
-      (rw m at (over_last b x (part a (a + j) s) s (omega arith)))
+-- over a list of numbers
+module _ (a : ℕ) (s : List ℕ) where
+  pub cleared-over : (e : ℕ) → a ≤ e → take a s ++ (replicate (e - a) 0 ++ drop e s) ≡ over a (replicate (e - a) 0) s
+  unfolding over
+  cleared-over e h =
+      let n : a + length (replicate {A = ℕ} (e - a) 0) ≡ e = omega (arith, length-replicate {A = ℕ} (e - a) 0) in
+      rw n refl
 
-  pub move_all : i ≤ 0 → over b (part a (a + i) s) s ≡ s
-  move_all h = let n : a + i - a ≡ 0 = omega arith in rw n (over_none b s)
+  pub moved-over : (b n : ℕ) → a + n ≤ length s → take b s ++ (take n (drop a s) ++ drop (b + n) s) ≡ over b (part a (a + n) s) s
+  unfolding over
+  moved-over b n h =
+      let m : length (part a (a + n) s) ≡ n = length_part a (a + n) s h ∙ omega arith in
+      let e : a + n - a ≡ n = omega arith in
+      rw (m, e) refl

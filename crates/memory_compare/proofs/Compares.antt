@@ -1,40 +1,70 @@
--- The loop that compares two runs: the flag and what is left to compare give the same after a turn as before it (`-next`), and the flag alone once all is compared (`-all`).
-use mathlib.Core.Path.{◌≡◌, refl, sym, ap, ◌∙◌}
-use Prim.Native.Nat.{ℕ, ◌+◌, ◌≤◌, ◌<◌}
-use mathlib.Core.List.{List}
-use mathlib.Core.Bool.{Bool, true, false, ◌&&◌, and-true, and-false}
-use native.Mathlib.Omega.{arith}
-use native.Mathlib.Decide.{ℕ_discrete}
-use native.Mathlib.Nat.{add-zero}
-use borrow.Author.Tests.{eq-eqb, ne_eqb, eqb-true}
-use lib.Dec.{eqb}
-use lib.ListN.{length, get_or}
-use Rattle.lists.specs.Lists.{part, same_list}
-use Rattle.lists.proofs.Parts.{get_or-part}
-use Rattle.lists.proofs.Same.{same-equal}
-use Rattle.lists.proofs.Alike.{alike, alike_next, alike-not, alike_all}
+-- What std's calls answer, as the tests of Lists.
+use Rattle.std.proofs.Common.{◌≡◌, ℕ, zero, suc, ◌-◌, Bool, true, false, ◌&&◌, List, [], ◌∷◌, length, eqb, refl, ap, ◌∙◌, Bor, arith}
+use Rattle.std.specs.List.{fold, slice_get}
+use Rattle.std.specs.Option.{option_eq, option_copied}
+use Rattle.std.specs.Prelude.{Option, Some, None}
+use lib.Pointwise.{pointwise}
+use mathlib.Core.Bool.{and_assoc}
+use Rattle.lists.specs.Lists.{same_list, zeros}
+use Rattle.lists.proofs.Same.{and_left, and_right}
 
-module _ (s : List ℕ) (a c n : ℕ) (h : a + n ≤ length s) (k : c + n ≤ length s) where
-  -- one place tells the runs apart
-  pub place-differs : (i : ℕ) → i < n → (get_or s (a + i) 0 ≡ get_or s (c + i) 0 → ⊥) → same_list eqb (part a (a + n) s) (part c (c + n) s) ≡ false
-  place-differs i m d = go (same_list eqb (part a (a + n) s) (part c (c + n) s)) refl
+-- a flag that falls at the first byte that is not zero
+pub clean-zeros : (b : Bool) (l : List ℕ) → fold (λ c x. c && eqb x 0) b l ≡ (b && zeros l)
+unfolding zeros
+clean-zeros true [] = refl
+clean-zeros false [] = refl
+clean-zeros b (x ∷ l) = clean-zeros (b && eqb x 0) l ∙ and_assoc b (eqb x 0) (zeros l)
+
+pub zeros_nothing : (l : List ℕ) → length l ≡ 0 → zeros l ≡ true
+unfolding zeros
+zeros_nothing [] h = refl
+zeros_nothing (x ∷ l) h = absurd (omega arith)
+
+module _ {A : Type 0} (t : A → A → Bool) where
+  pub same_pointwise : (l m : List A) → same_list t l m ≡ pointwise t l m
+  unfolding same_list
+  same_pointwise [] [] = refl
+  same_pointwise [] (y ∷ m) = refl
+  same_pointwise (x ∷ l) [] = refl
+  same_pointwise (x ∷ l) (y ∷ m) = ap (λ b. t x y && b) (same_pointwise l m)
+
+  same-length : (l m : List A) → same_list t l m ≡ true → length l ≡ length m
+  unfolding same_list
+  same-length [] [] h = refl
+  same-length [] (y ∷ m) h = cc
+  same-length (x ∷ l) [] h = cc
+  same-length (x ∷ l) (y ∷ m) h = ap suc (same-length l m (and_right (t x y) (same_list t l m) h))
+
+  same-at : (l m : List A) → same_list t l m ≡ true → (k : ℕ) → option_eq t (slice_get l k) (slice_get m k) ≡ true
+  unfolding same_list
+  same-at [] [] h k = refl
+  same-at [] (y ∷ m) h k = cc
+  same-at (x ∷ l) [] h k = cc
+  same-at (x ∷ l) (y ∷ m) h zero = and_left (t x y) (same_list t l m) h
+  same-at (x ∷ l) (y ∷ m) h (suc k) = same-at l m (and_right (t x y) (same_list t l m) h) k
+
+  read : (p q : Option (Bor A)) → option_eq (λ x y. t x.now y.now) p q ≡ option_eq t (option_copied p) (option_copied q)
+  read None None = refl
+  read None (Some y) = refl
+  read (Some x) None = refl
+  read (Some x) (Some y) = refl
+
+  pub length-differs : (l m : List A) → (length l ≡ length m → ⊥) → same_list t l m ≡ false
+  length-differs l m d = go (same_list t l m) refl
     where
-      go : (b : Bool) → same_list eqb (part a (a + n) s) (part c (c + n) s) ≡ b → b ≡ false
-      go true e =
-          let same = same-equal eqb eqb-true (part a (a + n) s) (part c (c + n) s) e in
-          absurd (d (sym (get_or-part a (a + n) i s (omega arith)) ∙ ap (λ (l : List ℕ). get_or l i 0) same ∙ get_or-part c (c + n) i s (omega arith)))
+      go : (b : Bool) → same_list t l m ≡ b → b ≡ false
+      go true e = absurd (d (same-length l m e))
       go false e = refl
 
-  pub first-differs : 0 < n → (get_or s a 0 ≡ get_or s c 0 → ⊥) → same_list eqb (part a (a + n) s) (part c (c + n) s) ≡ false
-  first-differs m d = place-differs 0 m (λ e. d (rw (add-zero a, add-zero c) at e))
-
-  module _ (flag : Bool) (i : ℕ) where
-    pub same_next : i < n → (flag && alike s a c n i) ≡ ((flag && eqb (get_or s (a + i) 0) (get_or s (c + i) 0)) && alike s a c n (i + 1))
-    same_next m = go (ℕ_discrete (get_or s (a + i) 0) (get_or s (c + i) 0))
-      where
-        go : Dec (get_or s (a + i) 0 ≡ get_or s (c + i) 0) → (flag && alike s a c n i) ≡ ((flag && eqb (get_or s (a + i) 0) (get_or s (c + i) 0)) && alike s a c n (i + 1))
-        go (yes e) = rw (eq-eqb (get_or s (a + i) 0) (get_or s (c + i) 0) e, alike_next s a c n i h k m (sym e), and-true)
-        go (no d) = rw (ne_eqb (get_or s (a + i) 0) (get_or s (c + i) 0) d, alike-not s a c n i h k m (λ e. d (sym e)), and-false)
-
-    pub same-all : n ≤ i → (flag && alike s a c n i) ≡ flag
-    same-all m = rw (alike_all s a c n i h k m, and-true)
+  -- the last of both tell the lists apart
+  pub last_differs : (l m : List A) (p q : Option (Bor A)) → option_copied p ≡ slice_get l (length l - 1) → option_copied q ≡ slice_get m (length m - 1)
+      → option_eq (λ x y. t x.now y.now) p q ≡ false → same_list t l m ≡ false
+  last_differs l m p q a b d = go (same_list t l m) refl
+    where
+      go : (b : Bool) → same_list t l m ≡ b → b ≡ false
+      go true e =
+          let k = same-at l m e (length l - 1) in
+          let n = same-length l m e in
+          let r = read p q in
+          cc (ap (λ (i : ℕ). slice_get m (i - 1)) n, ap (option_eq t (option_copied p)) b, ap (λ (o : Option A). option_eq t o (slice_get m (length m - 1))) a)
+      go false e = refl

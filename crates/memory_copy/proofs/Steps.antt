@@ -1,15 +1,15 @@
 -- Numbers copied one by one, and in steps of several: one step, one behind the other, and a last one that overlaps what is written.
 use mathlib.Core.Path.{◌≡◌, refl, sym, ap, ◌∙◌}
-use Prim.Native.Nat.{ℕ, zero, suc, ◌+◌, ◌-◌, ◌≤◌, ◌<◌}
-use mathlib.Core.List.{List, [], ◌∷◌, ◌++◌}
-use native.Mathlib.Nat.{zero-add, add-zero}
+use Prim.Native.Nat.{ℕ, ◌+◌, ◌-◌, ◌≤◌, ◌<◌}
+use mathlib.Core.List.{List, ◌++◌}
+use native.Mathlib.Nat.{add-zero}
 use native.Mathlib.Omega.{arith}
 use lib.ListN.{length, take, drop, get_or, set, length-drop, drop_of_length-le}
-use lib.Seq.{length-take-le, take_all, take-add, take-suc}
+use lib.Seq.{length-take-le, take_all, take-add, drop-drop}
 use Rattle.lists.specs.Lists.{over}
 use Rattle.lists.proofs.Over.{length_over, over-take, over-drop}
-use Rattle.lists.proofs.Overs.{over-then, over-lent}
-use Rattle.lists.proofs.Runs.{drop-first, over_none, over_first, set-over, part-rest}
+use Rattle.lists.proofs.Overs.{over-then}
+use Rattle.lists.proofs.Runs.{drop-first, over_none, over_first}
 
 -- ---- one by one: what is left to write gives the same after a turn as before it, and leaves the slice as it is once all is written
 
@@ -23,33 +23,21 @@ module _ (a : ℕ) (vs : List ℕ) (i : ℕ) (s : List ℕ) where
   pub copy-all : length vs ≤ i → over (a + i) (drop i vs) s ≡ s
   copy-all h = rw (drop_of_length-le vs {i = i} h) (over_none (a + i) s)
 
--- ---- one step: the first k, stored one by one
+-- ---- written at once, over a part that is lent
 
-unfoldable pub stored : ℕ → List ℕ → List ℕ → List ℕ
-stored zero vs l = l
-stored (suc k) vs l = set (stored k vs l) k (get_or vs k 0)
+pub over-lent-part : (a k : ℕ) (vs l : List ℕ) → length vs ≡ k → take a l ++ (vs ++ drop k (drop a l)) ≡ over a vs l
+unfolding over
+over-lent-part a k vs l n = rw (n, drop-drop k a l)
 
-pub stored-over : (k : ℕ) (vs l : List ℕ) → k ≤ length vs → k ≤ length l → stored k vs l ≡ over 0 (take k vs) l
-unfolding stored
-stored-over zero vs l h b = sym (over_none 0 l)
-stored-over (suc k) vs l h b =
-    let us = take k vs in
-    let n : length us ≡ k = length-take-le k vs (omega arith) in
-    let room : 0 + length us ≤ length l = omega arith in
-    let x : ℕ = get_or vs k 0 in
-    ap (λ (m : List ℕ). set m k x) (stored-over k vs l (omega arith) (omega arith))
-    ∙ set-over k x (over 0 us l) (omega (arith, length_over 0 us l room))
-    ∙ ap (λ (j : ℕ). over j (x ∷ []) (over 0 us l)) (sym n ∙ sym (zero-add (length us)))
-    ∙ over-then 0 us l room (x ∷ [])
-    ∙ ap (λ (m : List ℕ). over 0 m l) (sym (take-suc vs k 0 (omega arith)))
+-- ---- one step: of vs, written from a on, the k from i on
 
--- of vs, written from a on, those from i on, to a part that is lent
-pub step-lent : (k a i : ℕ) (vs l : List ℕ) {y : List ℕ} → a + length vs ≤ length l → i + k ≤ length vs
-    → y ≡ over 0 (take k (take (length vs - i) (drop i vs))) (take (length l - (a + i)) (drop (a + i) l))
-    → take (a + i) l ++ (y ++ drop (length l - (a + i)) (drop (a + i) l)) ≡ over (a + i) (take k (drop i vs)) l
-step-lent k a i vs l h b e =
+pub step-lent : (k a i : ℕ) (vs l y : List ℕ) → i + k ≤ length vs → y ≡ take (i + k - i) (drop i vs)
+    → take (a + i) l ++ (y ++ drop (a + i + k - (a + i)) (drop (a + i) l)) ≡ over (a + i) (take k (drop i vs)) l
+step-lent k a i vs l y b e =
+    let m : i + k - i ≡ k = omega arith in
+    let r : a + i + k - (a + i) ≡ k = omega arith in
     let n : length (take k (drop i vs)) ≡ k = length-take-le k (drop i vs) (omega (arith, length-drop i vs)) in
-    rw (e, part-rest i vs) (over-lent (a + i) (take k (drop i vs)) l (omega arith))
+    rw (e, m, r) (over-lent-part (a + i) k (take k (drop i vs)) l n)
 
 -- ---- steps
 

@@ -9,11 +9,7 @@ pub fn fill(work: &mut [u64], a: usize, n: usize, v: u64)
     requires { a + n ≤ length work.old }
     ensures { Filling a n v n work.old work.new }
 {
-    let mut i = 0;
-    while i < n {
-        work[a + i] = v;
-        i += 1;
-    }
+    work[a..a + n].fill(v);
 }
 
 // Copies the n words from one place on to another place and on, apart from them.
@@ -21,9 +17,5 @@ pub fn copy(work: &mut [u64], from: usize, to: usize, n: usize)
     requires { Away from to n × (from + n ≤ length work.old) × (to + n ≤ length work.old) }
     ensures { Copying from to n n work.old work.new }
 {
-    let mut i = 0;
-    while i < n {
-        work[to + i] = work[from + i];
-        i += 1;
-    }
+    work.copy_within(from..from + n, to);
 }

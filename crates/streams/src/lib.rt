@@ -16,13 +16,8 @@ pub fn read_full<R: Read>(from: &mut R, space: &mut [u8]) -> usize
     let mut done = 0;
     while done < space.len() {
         match from.read(&mut space[done..]) {
-            Ok(n) => {
-                if n == 0 {
-                    break;
-                }
-                done += n;
-            }
-            Err(_) => break,
+            Ok(n) if 0 < n => done += n,
+            _ => break,
         }
     }
     done

@@ -11,8 +11,7 @@ use borrow.Author.Tests.{le-leb, lt-ltb, ltb-true, ltb-false, eqb-true, eqb-fals
 use Rattle.lists.specs.Lists.{pick, holds}
 use Rattle.text.specs.Digits.{char0, digit, digits, read_on}
 use Rattle.text.specs.Decimal.{width_of, width, decimal, most_digits, padded, read_number}
-use Rattle.text.specs.declared.decimal.Number.{Number}
-use Rattle.text.specs.declared.decimal.Number.TheVariants as Number
+use Rattle.std.specs.Prelude.{Some}
 use Rattle.text.proofs.Written.{length_digits, read-last, digits-all}
 
 tenth-lt : (k n : ℕ) → n < 10 ^ suc k → n / 10 < 10 ^ k
@@ -109,7 +108,7 @@ decimal-not-padded n h = by (eqb n 0) refl
         headed-not-padded (decimal n) (decimal-headed 10 n (omega arith) h)
 
 -- a number below 10 ^ 9 is read back from its decimal text
-pub decimal-read : (n : ℕ) → n < 10 ^ 9 → read_number (decimal n) ≡ Number.Is n
+pub decimal-read : (n : ℕ) → n < 10 ^ 9 → read_number (decimal n) ≡ Some n
 unfolding holds
 decimal-read n h =
     let k : n < 10 ^ 10 = omega arith in

@@ -1,12 +1,14 @@
 -- A turn of each loop over digits: what is left to write, what is left to read.
-use mathlib.Core.Path.{◌≡◌, sym, ap, ◌∙◌}
+use mathlib.Core.Path.{◌≡◌, refl, sym, ap, ◌∙◌}
 use Prim.Native.Nat.{ℕ, suc, ◌+◌, ◌-◌, ◌*◌, ◌/◌, ◌%◌, ◌≤◌, ◌<◌}
 use mathlib.Core.List.{List, [], ◌∷◌, ◌++◌}
-use mathlib.Core.Bool.{Bool, true, false, ◌&&◌}
+use mathlib.Core.Bool.{Bool, true, false, cond, ◌&&◌}
 use native.Mathlib.Omega.{arith}
-use lib.Dec.{ltb}
+use lib.Dec.{leb, ltb}
 use lib.ListN.{length, drop, get_or, set, drop_of_length-le}
-use borrow.Author.Tests.{lt-ltb, le-ltb, ltb-true}
+use borrow.Author.Tests.{le-leb, lt-leb, ltb-true, ltb-false}
+use Rattle.std.specs.List.{position_or_len}
+use Rattle.std.proofs.lemmas.List.Recursion.{is_position_or_len}
 use Rattle.lists.specs.Lists.{pick, over}
 use Rattle.lists.proofs.Same.{and_left, and_right}
 use Rattle.lists.proofs.Runs.{drop-first, over_none, over_last}
@@ -54,19 +56,14 @@ pub read-end : (b i v : ℕ) (l : List ℕ) → length l ≤ i → read_on b v (
 unfolding read_on
 read-end b i v l h = rw (drop_of_length-le l {i = i} h)
 
--- ---- how many digits stand in front
-module _ (b i : ℕ) (l : List ℕ) where
-  pub span_more : i < length l → value_of (get_or l i 0) < b → span b (drop i l) ≡ suc (span b (drop (i + 1) l))
-  unfolding span
-  span_more h k = rw (drop-first i l h, lt-ltb (value_of (get_or l i 0)) b k)
-
-  pub span-stop : i < length l → b ≤ value_of (get_or l i 0) → span b (drop i l) ≡ 0
-  unfolding span
-  span-stop h k = rw (drop-first i l h, le-ltb (value_of (get_or l i 0)) b k)
-
-  pub span-end : length l ≤ i → span b (drop i l) ≡ 0
-  unfolding span
-  span-end h = rw (drop_of_length-le l {i = i} h)
+-- ---- how many digits stand in front: the place of the first character that is none
+pub span-place : (b : ℕ) (l : List ℕ) → span b l ≡ position_or_len (λ c. leb b (value_of c)) l
+unfolding span
+span-place b = is_position_or_len (span b) (λ c. leb b (value_of c)) refl (λ c l. by c (span b l) (ltb (value_of c) b) refl)
+  where
+    by : (c n : ℕ) (t : Bool) → ltb (value_of c) b ≡ t → pick t (suc n) 0 ≡ cond (leb b (value_of c)) 0 (1 + n)
+    by c n true e = rw (lt-leb b (value_of c) (ltb-true (value_of c) b e)) (omega arith)
+    by c n false e = rw (le-leb b (value_of c) (ltb-false (value_of c) b e))
 
 pub span-most : (b : ℕ) (l : List ℕ) → span b l ≤ length l
 unfolding span

@@ -1,9 +1,7 @@
 -- Numbers in decimal, without leading zeros: written, and read where they have 1 to 9 digits.
-use Rattle.std.specs.Prelude.{ℕ, zero, suc, ◌/◌, List, [], ◌∷◌, Bool, false, not, eqb, leb, ltb, length}
+use Rattle.std.specs.Prelude.{ℕ, zero, suc, ◌/◌, List, [], ◌∷◌, Bool, false, not, eqb, leb, ltb, length, Option, Some, None}
 use Rattle.lists.specs.Lists.{pick, holds}
 use Rattle.text.specs.Digits.{char0, digits, all_digits, read_on}
-use Rattle.text.specs.declared.decimal.Number.{Number}
-use Rattle.text.specs.declared.decimal.Number.TheVariants as Number
 
 -- how many digits n has, of at most k
 unfoldable pub width_of : ℕ → ℕ → ℕ
@@ -30,5 +28,5 @@ padded (c ∷ (d ∷ l)) = eqb c char0
 abbrev pub is_number : List ℕ → Bool
 is_number l = holds (not (eqb (length l) 0) ∷ (leb (length l) most_digits ∷ (all_digits 10 l ∷ (not (padded l) ∷ []))))
 
-abbrev pub read_number : List ℕ → Number
-read_number l = pick (is_number l) (Number.Is (read_on 10 0 l)) Number.Not
+abbrev pub read_number : List ℕ → Option ℕ
+read_number l = pick (is_number l) (Some (read_on 10 0 l)) None

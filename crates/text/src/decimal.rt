@@ -6,27 +6,18 @@ ghost use Rattle.text.specs.Decimal.{width, decimal, most_digits, padded, read_n
 
 use crate::digits::{DECIMAL, all_digits, put_digits, value_of};
 
-// What a text says as a number.
-#[derive(Clone, Copy)]
-pub enum Number {
-    Is(u32),
-    Not,
-}
-
 // A longer text is not read.
 const MOST_DIGITS: usize = 9;
 
-// How many digits a number of 32 bits has at most.
-const MOST_WIDTH: usize = 10;
-
 // Whether a zero stands before other characters.
+#[tactic(auto, using(crate::proofs::DecimalTurns::padded_turns))]
 fn padded(s: &[u8]) -> bool
     ensures { result ≡ padded s.now }
 {
-    if s.len() < 2 {
-        return false;
+    match s {
+        [first, _, ..] => *first == b'0',
+        _ => false,
     }
-    s[0] == b'0'
 }
 
 // The value of decimal digits.
@@ -35,48 +26,36 @@ fn value(s: &[u8]) -> u32
     ensures { result ≡ read_on 10 0 s.now }
 {
     let mut v: u32 = 0;
-    let mut i = 0;
-    while i < s.len() {
-        let d = value_of(s[i]);
-        v = v * DECIMAL + d;
-        i += 1;
+    for c in s {
+        v = v * DECIMAL + value_of(*c);
     }
     v
 }
 
 // The number that a text is: decimal, 1 to 9 digits, without leading zeros.
-pub fn read_number(s: &[u8]) -> Number
+pub fn read_number(s: &[u8]) -> Option<u32>
     ensures { result ≡ read_number s.now }
 {
-    if s.len() == 0 {
-        return Number::Not;
+    if s.is_empty() {
+        return None;
     }
     if MOST_DIGITS < s.len() {
-        return Number::Not;
+        return None;
     }
     if !all_digits(s, DECIMAL) {
-        return Number::Not;
+        return None;
     }
     if padded(s) {
-        return Number::Not;
+        return None;
     }
-    Number::Is(value(s))
+    Some(value(s))
 }
 
-// How many digits n has.
+// How many digits n has: one, for 0 too.
 pub fn width(n: u32) -> usize
     ensures { result ≡ width n }
 {
-    let mut rest = n;
-    let mut w = 1;
-    while w < MOST_WIDTH {
-        if rest < DECIMAL {
-            return w;
-        }
-        rest = rest / DECIMAL;
-        w += 1;
-    }
-    w
+    n.max(1).ilog10() as usize + 1
 }
 
 // Writes n from `at` on, and tells how many digits it wrote.

@@ -14,47 +14,27 @@ const NO_DIGIT: u32 = 16;
 pub fn value_of(c: u8) -> u32
     ensures { result ≡ value_of c }
 {
-    if c < b'0' {
-        return NO_DIGIT;
+    match c {
+        b'0'..=b'9' => u32::from(c - b'0'),
+        b'a'..=b'f' => u32::from(c - b'a') + DECIMAL,
+        _ => NO_DIGIT,
     }
-    if c <= b'9' {
-        return (c - b'0') as u32;
-    }
-    if c < b'a' {
-        return NO_DIGIT;
-    }
-    if c <= b'f' {
-        return (c - b'a') as u32 + DECIMAL;
-    }
-    NO_DIGIT
 }
 
 // Whether every character is a digit of the base. An empty text has none that is not.
 pub fn all_digits(s: &[u8], base: u32) -> bool
     ensures { result ≡ all_digits base s.now }
 {
-    let mut i = 0;
-    while i < s.len() {
-        if base <= value_of(s[i]) {
-            return false;
-        }
-        i += 1;
-    }
-    true
+    s.iter().all(|c| value_of(*c) < base)
 }
 
 // How many digits of the base stand in front.
 pub fn span(s: &[u8], base: u32) -> usize
     ensures { result ≡ span base s.now }
 {
-    let mut i = 0;
-    while i < s.len() {
-        if base <= value_of(s[i]) {
-            return i;
-        }
-        i += 1;
-    }
-    i
+    s.iter()
+        .position(|c| base <= value_of(*c))
+        .unwrap_or(s.len())
 }
 
 // The character of a digit.
@@ -74,10 +54,8 @@ pub fn put_digits(out: &mut [u8], at: usize, base: u32, width: usize, n: u32)
     ensures { out.new ≡ over at (digits base width n) out.old }
 {
     let mut rest = n;
-    let mut left = width;
-    while 0 < left {
-        left -= 1;
-        out[at + left] = digit(rest % base);
-        rest = rest / base;
+    for i in (at..at + width).rev() {
+        out[i] = digit(rest % base);
+        rest /= base;
     }
 }

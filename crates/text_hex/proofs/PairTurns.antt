@@ -2,17 +2,15 @@
 use mathlib.Core.Path.{◌≡◌, refl, sym, ◌∙◌}
 use Prim.Native.Nat.{ℕ, ◌+◌, ◌*◌, ◌/◌, ◌%◌, ◌≤◌, ◌<◌}
 use mathlib.Core.List.{List, [], ◌∷◌}
-use mathlib.Core.Bool.{Bool, true, ◌&&◌, and_assoc, and-true}
+use mathlib.Core.Bool.{Bool, ◌&&◌, and_assoc, and-true}
 use native.Mathlib.Omega.{arith}
-use borrow.Author.Tests.{eqb-true}
-use lib.Dec.{eqb, ltb}
+use lib.Dec.{ltb}
 use lib.ListN.{length, drop, get_or, set, length-drop, length-set, drop_of_length-le}
 use Rattle.lists.specs.Lists.{over}
 use Rattle.lists.proofs.Runs.{drop-first, over_none, over_first}
 use Rattle.lists.proofs.Overs.{over-then}
-use Rattle.lists.proofs.Tables.{everywhere, at_entry}
 use Rattle.text.specs.Digits.{digit, digits, value_of, all_digits}
-use Rattle.text_hex.specs.Hex.{hex_pairs, pair_value, bytes_of, RightValues}
+use Rattle.text_hex.specs.Hex.{hex_pairs, pair_value, bytes_of}
 use Rattle.text.proofs.Written.{length_digits}
 use Rattle.text.proofs.DigitTurns.{all_first, all_none}
 
@@ -68,11 +66,3 @@ both-turn flag i l h =
 
 pub both_end : (flag : Bool) (i : ℕ) (l : List ℕ) → length l ≤ i * 2 → (flag && all_digits 16 (drop (i * 2) l)) ≡ flag
 both_end flag i l h = rw (all_none 16 (i * 2) l h, and-true)
-
--- the table's rule, tested over all entries, holds at each
-unfoldable pub right_value : ℕ → ℕ → Bool
-right_value c x = eqb x (value_of c)
-
-pub right-values : (table : List ℕ) → everywhere right_value 0 table ≡ true → length table ≡ 256 → RightValues table
-unfolding right_value
-right-values table right full = record { entry = λ c h. eqb-true (get_or table c 0) (value_of c) (at_entry right_value 0 table right c (omega arith)) }

@@ -19,22 +19,9 @@ pub fn values() -> [u8; CHARACTERS]
     ensures { RightValues result }
 {
     let mut table = [BASE; CHARACTERS];
-    table[b'0' as usize] = 0;
-    table[b'1' as usize] = 1;
-    table[b'2' as usize] = 2;
-    table[b'3' as usize] = 3;
-    table[b'4' as usize] = 4;
-    table[b'5' as usize] = 5;
-    table[b'6' as usize] = 6;
-    table[b'7' as usize] = 7;
-    table[b'8' as usize] = 8;
-    table[b'9' as usize] = 9;
-    table[b'a' as usize] = 10;
-    table[b'b' as usize] = 11;
-    table[b'c' as usize] = 12;
-    table[b'd' as usize] = 13;
-    table[b'e' as usize] = 14;
-    table[b'f' as usize] = 15;
+    for d in 0..BASE {
+        table[usize::from(digit(u32::from(d)))] = d;
+    }
     table
 }
 
@@ -53,13 +40,11 @@ pub fn pair_of(high: u8, low: u8) -> u8
     high % BASE * BASE + low % BASE
 }
 
-// The byte of a pair. What is no hex digit counts as 0, so that the byte fits whatever the text is.
+// The byte of a pair.
 fn pair_value(c: u8, d: u8) -> u8
     ensures { result ≡ pair_value c d }
 {
-    let high = value_of(c);
-    let low = value_of(d);
-    (high % HEX * HEX + low % HEX) as u8
+    pair_of(value_of(c) as u8, value_of(d) as u8)
 }
 
 // Reads the bytes of hex pairs into the front of `out`. A last character alone is left out; one that is no hex digit is read as 0.
@@ -67,11 +52,8 @@ pub fn get_pairs(out: &mut [u8], s: &[u8])
     requires { length s.now ≤ length out.old * 2 }
     ensures { out.new ≡ over 0 (bytes_of s.now) out.old }
 {
-    let n = s.len() / 2;
-    let mut i = 0;
-    while i < n {
+    for i in 0..s.len() / 2 {
         out[i] = pair_value(s[i * 2], s[i * 2 + 1]);
-        i += 1;
     }
 }
 
@@ -79,7 +61,7 @@ fn put_pair(out: &mut [u8], at: usize, byte: u8)
     requires { at + 2 ≤ length out.old }
     ensures { out.new ≡ over at (digits 16 2 byte) out.old }
 {
-    let n = byte as u32;
+    let n = u32::from(byte);
     out[at] = digit(n / HEX % HEX);
     out[at + 1] = digit(n % HEX);
 }
@@ -89,9 +71,7 @@ pub fn put_pairs(out: &mut [u8], at: usize, bytes: &[u8])
     requires { at + length bytes.now * 2 ≤ length out.old }
     ensures { out.new ≡ over at (hex_pairs bytes.now) out.old }
 {
-    let mut i = 0;
-    while i < bytes.len() {
-        put_pair(out, at + i * 2, bytes[i]);
-        i += 1;
+    for (i, byte) in bytes.iter().enumerate() {
+        put_pair(out, at + i * 2, *byte);
     }
 }

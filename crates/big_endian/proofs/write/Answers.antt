@@ -4,7 +4,7 @@ use native.Mathlib.Omega.{arith}
 use Rattle.big_endian.proofs.Turns.{write-end}
 use Rattle.big_endian.proofs.write.Goals as goal
 
-pub returns-then-width-eq0 : goal.returns-then-width-eq0
-returns-then-width-eq0 c =
+pub returns-in-0 : goal.returns-in-0
+returns-in-0 c =
     let args = c.args in
     sym (write-end args.at args.width args.n args.out.now (omega arith))

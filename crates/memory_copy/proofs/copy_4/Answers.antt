@@ -8,5 +8,5 @@ use Rattle.memory_copy.proofs.copy_4.Goals as goal
 pub returns : goal.returns
 returns c =
     let f = c.args in
-    let first = step-first f.at f.src.now f.s.now (search rules) 4 c.step_4.ensures in
-    step-last f.at f.src.now f.s.now (search rules) 4 (length f.src.now - 4) 4 (search rules) (search rules) (search rules) first c.step_4-2.ensures
+    let first = step-first f.at f.src.now f.s.now (search rules) 4 c.step.ensures in
+    step-last f.at f.src.now f.s.now (search rules) 4 (length f.src.now - 4) 4 (search rules) (search rules) (search rules) first c.step-2.ensures

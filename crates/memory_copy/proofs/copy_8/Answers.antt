@@ -13,11 +13,11 @@ returns c =
     let n : ℕ = length f.src.now in
     let low : 8 ≤ n = pre.1 in
     let high : n ≤ 32 = pre.2 in
-    let second : ℕ = c.least.result in
-    let third : ℕ = c.least-2.result in
-    let second_is : second ≡ min 8 (n - 8) = c.least.ensures in
-    let third-is : third ≡ min 16 (n - 8) = c.least-2.ensures in
-    let x = step-first f.at f.src.now f.s.now pre.0 8 c.step_8.ensures in
-    let y = step-on f.at f.src.now f.s.now pre.0 8 second 8 (omega arith) (omega arith) (omega arith) x c.step_8-2.ensures in
-    let z = step-on f.at f.src.now f.s.now pre.0 (second + 8) third 8 (omega arith) (omega arith) (omega arith) y c.step_8-3.ensures in
-    step-last f.at f.src.now f.s.now pre.0 (third + 8) (n - 8) 8 (omega arith) (omega arith) (omega arith) z c.step_8-4.ensures
+    let second : ℕ = c.min.result in
+    let third : ℕ = c.min-2.result in
+    let second_is : second ≡ min (n - 8) 8 = c.min.ensures in
+    let third-is : third ≡ min (n - 8) 16 = c.min-2.ensures in
+    let x = step-first f.at f.src.now f.s.now pre.0 8 c.step.ensures in
+    let y = step-on f.at f.src.now f.s.now pre.0 8 second 8 (omega arith) (omega arith) (omega arith) x c.step-2.ensures in
+    let z = step-on f.at f.src.now f.s.now pre.0 (second + 8) third 8 (omega arith) (omega arith) (omega arith) y c.step-3.ensures in
+    step-last f.at f.src.now f.s.now pre.0 (third + 8) (n - 8) 8 (omega arith) (omega arith) (omega arith) z c.step-4.ensures

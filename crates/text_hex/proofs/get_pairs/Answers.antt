@@ -1,17 +1,13 @@
 -- The bytes left, written over the slice as it is, give what the contract says.
-use mathlib.Core.Path.{refl, sym, ◌∙◌}
-use lib.ListN.{length-set}
+use mathlib.Core.Path.{sym, ◌∙◌}
 use Rattle.text_hex.proofs.PairTurns.{bytes-turn, bytes-end}
 use borrow.Author.Rules.{rules}
 use Rattle.text_hex.proofs.get_pairs.Goals as goal
 
-pub loop-i-init : goal.loop-i-init
-loop-i-init c = (search rules, refl, refl)
-
 pub loop-i-preserved : goal.loop-i-preserved
 loop-i-preserved c =
     let l = c.loop-i in
-    (search rules, simp length-set l.invariant.1, rw c.pair_value.ensures (bytes-turn l.i _ l.out (search rules) (search rules)) ∙ l.invariant.2)
+    rw c.pair_value.ensures (bytes-turn l.i _ l.out (search rules) (search rules)) ∙ l.invariant
 
 pub returns : goal.returns
-returns c = sym (bytes-end c.loop-i.i _ c.loop-i.out (search rules)) ∙ c.loop-i.invariant.2
+returns c = sym (bytes-end c.loop-i.i _ c.loop-i.out (search rules)) ∙ c.loop-i.invariant

@@ -9,4 +9,4 @@ pub bounds-out-at-2 : goal.bounds-out-at-2
 bounds-out-at-2 c = simp length-set (omega arith)
 
 pub returns : goal.returns
-returns c = rw (c.digit-2.ensures, c.digit.ensures) (pair_put _ _ _ (search rules))
+returns c = rw (c.digit-2.ensures, c.digit.ensures, c.from-n.ensures) (pair_put _ _ _ (search rules))

@@ -1,9 +1,9 @@
--- The table's rule is tested once over all of its entries; the checker computes the test.
-use Rattle.text_hex.proofs.PairTurns.{right_value, right-values}
-use Rattle.lists.proofs.Tables.{everywhere}
-use mathlib.Core.Path.{refl}
+-- At first every character has the value of none.
+use native.Mathlib.Omega.{arith}
+use borrow.Author.Tests.{le-ltb}
+use Rattle.std.proofs.lemmas.List.{get_or-replicate}
+use Rattle.text.specs.Digits.{value_of}
 use Rattle.text_hex.proofs.values.Goals as goal
 
-pub returns : goal.returns
-unfolding everywhere right_value
-returns c = right-values _ refl refl
+pub loop-d-init : goal.loop-d-init
+loop-d-init c = λ x h. rw (le-ltb (value_of x) 0 (omega arith)) (get_or-replicate 256 x 16 0 h)

@@ -1,24 +1,11 @@
--- All are digits exactly if those that are left are.
-use mathlib.Core.Path.{refl, sym, ◌∙◌}
-use borrow.Author.Tests.{lt-ltb, le-ltb}
-use Rattle.text.proofs.DigitTurns.{all_first, all_none}
+-- All are digits exactly if each passes the loop's test.
+use mathlib.Core.Path.{refl}
+use Rattle.std.proofs.lemmas.List.Recursion.{and_is}
+use Rattle.text.specs.Digits.{all_digits, value_of}
+use lib.Dec.{ltb}
 use borrow.Author.Rules.{rules}
 use Rattle.text.proofs.digits.all_digits.Goals as goal
 
-pub loop-i-init : goal.loop-i-init
-loop-i-init c = (search rules, refl)
-
-pub returns-then-base-value_of : goal.returns-then-base-value_of
-returns-then-base-value_of c =
-    let l = c.loop-i in
-    let a = c.args in
-    sym (sym l.invariant.1 ∙ all_first a.base l.i a.s.now (search rules) ∙ rw (← c.value_of.ensures, le-ltb _ _ c.if-base-value_of.true))
-
-pub loop-i-preserved : goal.loop-i-preserved
-loop-i-preserved c =
-    let l = c.loop-i in
-    let a = c.args in
-    (search rules, sym (all_first a.base l.i a.s.now (search rules) ∙ rw (← c.value_of.ensures, lt-ltb _ _ c.if-base-value_of.false)) ∙ l.invariant.1)
-
 pub returns : goal.returns
-returns c = sym (sym c.loop-i.invariant.1 ∙ all_none _ c.loop-i.i _ (search rules))
+unfolding all_digits
+returns c = and_is (all_digits c.args.base) (λ x. ltb (value_of x) c.args.base) refl (λ x xs. refl) c.args.s.now 0 _ (search rules) (search rules)
