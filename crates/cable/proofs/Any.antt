@@ -7,15 +7,16 @@ use native.Mathlib.Omega.{arith}
 use lib.Dec.{leb, ltb}
 use lib.ListN.{length, take, drop, length-append, length-take, length-drop}
 use borrow.Author.Tests.{leb-true, leb-false, ltb-true, ltb-false}
+use Rattle.std.specs.Prelude.{Option, Some, None, Err}
 use Rattle.lists.specs.Lists.{pick}
 use Rattle.lists.proofs.Over.{length_over, over-drop}
 use Rattle.lists.proofs.Same.{and_left, and_right}
 use Rattle.cable_frame.specs.Frame.{frame_size}
 use Rattle.cable_scan.specs.Scan.{line_next, ends, scanned, scan_on}
-use Rattle.cable_judge.specs.declared.answers.Feeding.TheVariants as Feeding
+use Rattle.cable_judge.specs.declared.answers.NoFrame.TheVariants as NoFrame
 use Rattle.cable_judge.specs.Judge.{told_count, told_size, told_data, is_awaited, fits_out, accepted, outcome, verdict}
 use Rattle.cable_judge.proofs.Verdicts.{right, same, awaited-split, length-data}
-use Rattle.cable_head.specs.Feed.{line_at, awaited_at, count_at, held_size, head_need, number_at, held_of, numbers, head_with, scan_of, taken_of, stretch_with, verdict_with, Left, left_of, fed_on, fed_end, feed_step}
+use Rattle.cable_head.specs.Feed.{line_at, awaited_at, count_at, held_size, head_need, number_at, held_of, numbers, head_with, scan_of, taken_of, stretch_with, verdict_with, Left, left_of, fed_on, fed_end, fed_by, feed_step}
 use Rattle.cable_head.proofs.Heads.{length-numbers, short_none}
 use Rattle.cable_head.proofs.Feeds.{taken-most}
 use Rattle.cable.specs.Inside.{Inside}
@@ -29,7 +30,7 @@ unfolding verdict
 verdict-length n c out s = by (is_awaited n c s) refl (fits_out n (told_size n (told_count n s) s) (length out)) refl
   where
     by : (x : Bool) → is_awaited n c s ≡ x → (y : Bool) → fits_out n (told_size n (told_count n s) s) (length out) ≡ y
-        → length (pick x (pick y (accepted n (told_count n s) s out) (outcome Feeding.OutputShort n c out)) (outcome Feeding.NotAwaited n c out)).out ≡ length out
+        → length (pick x (pick y (accepted n (told_count n s) s out) (outcome (Err NoFrame.OutputShort) n c out)) (outcome (Err NoFrame.NotAwaited) n c out)).out ≡ length out
     by true e true f =
         let d : List ℕ = told_data n (told_count n s) s in
         let k = length-data n c s (and_left (right n c s) (same n c s) (sym (awaited-split n c s) ∙ e)) in
@@ -53,7 +54,7 @@ unfolding scan_on
 scan-least k line [] = omega arith
 scan-least k line (b ∷ t) = by (ends line b) (scan-least (k + 1) (line_next line b) t)
   where
-    by : (e : Bool) → k + 1 ≤ (scan_on (k + 1) (line_next line b) t).taken → k ≤ (pick e (scanned (k + 1) true 0) (scan_on (k + 1) (line_next line b) t)).taken
+    by : (e : Bool) → k + 1 ≤ (scan_on (k + 1) (line_next line b) t).taken → k ≤ (pick e (scanned (k + 1) None) (scan_on (k + 1) (line_next line b) t)).taken
     by true h = omega arith
     by false h = omega arith
 
@@ -62,7 +63,7 @@ unfolding scan_on
 scan-some line [] h = absurd (omega arith)
 scan-some line (b ∷ t) h = by (ends line b) (scan-least (0 + 1) (line_next line b) t)
   where
-    by : (e : Bool) → 0 + 1 ≤ (scan_on (0 + 1) (line_next line b) t).taken → 1 ≤ (pick e (scanned (0 + 1) true 0) (scan_on (0 + 1) (line_next line b) t)).taken
+    by : (e : Bool) → 0 + 1 ≤ (scan_on (0 + 1) (line_next line b) t).taken → 1 ≤ (pick e (scanned (0 + 1) None) (scan_on (0 + 1) (line_next line b) t)).taken
     by true i = omega arith
     by false i = i
 
@@ -80,28 +81,28 @@ module _ (h t out : List ℕ) (full : head_need ≤ length h) where
         out = verdict-length (number_at awaited_at h) (number_at count_at h) out (stretch_with h (taken_of h t));
       }
 
-  on-inside : Inside h t out (fed_on h t out)
-  on-inside =
+  on-inside : (line : ℕ) → Inside h t out (fed_on line h t out)
+  on-inside line =
       let s : List ℕ = stretch_with h (taken_of h t) in
       let k : length s ≤ held_size = omega (arith, length-take held_size (held_of h ++ taken_of h t)) in
       record {
         most = taken-most h t;
         some = λ _ e. scan-some (number_at line_at h) t e;
-        head = with-length s (scan_of h t).line (number_at awaited_at h) (number_at count_at h) h full k;
-        past = with-past s (scan_of h t).line (number_at awaited_at h) (number_at count_at h) h full k;
+        head = with-length s line (number_at awaited_at h) (number_at count_at h) h full k;
+        past = with-past s line (number_at awaited_at h) (number_at count_at h) h full k;
         out = refl;
       }
 
 pub feed-inside : (h t out : List ℕ) → Inside h t out (feed_step h t out)
 unfolding feed_step
-feed-inside h t out = by (ltb (length h) head_need) refl (scan_of h t).ended
+feed-inside h t out = by (ltb (length h) head_need) refl (scan_of h t).line
   where
-    by : (x : Bool) → ltb (length h) head_need ≡ x → (y : Bool) → Inside h t out (pick x (left_of Feeding.HeadShort 0 h out) (pick y (fed_end h t out) (fed_on h t out)))
+    by : (x : Bool) → ltb (length h) head_need ≡ x → (y : Option ℕ) → Inside h t out (pick x (left_of (Err NoFrame.HeadShort) 0 h out) (fed_by y h t out))
     by true e y =
         let k : length h < head_need = ltb-true (length h) head_need e in
         record { most = omega arith; some = λ f _. absurd (omega (arith, f)); head = refl; past = refl; out = refl }
-    by false e true = end-inside h t out (ltb-false (length h) head_need e)
-    by false e false = on-inside h t out (ltb-false (length h) head_need e)
+    by false e None = end-inside h t out (ltb-false (length h) head_need e)
+    by false e (Some line) = on-inside h t out (ltb-false (length h) head_need e) line
 
 -- ---- enough feeds take all of a text
 

@@ -1,4 +1,5 @@
 -- Sent undamaged to a fresh head with room, the table comes back.
+use Rattle.std.specs.Prelude.{Ok}
 use mathlib.Core.Path.{◌≡◌, refl, sym, ap, ◌∙◌}
 use mathlib.Core.List.{List, [], ◌∷◌, ◌++◌}
 use mathlib.Core.Bool.{Bool, true, false, or-true}
@@ -6,7 +7,7 @@ use Prim.Native.Nat.{ℕ, zero, suc, ◌+◌, ◌*◌, ◌≤◌, ◌<◌}
 use native.Mathlib.Omega.{arith}
 use native.Mathlib.Numerals.{add-one}
 use lib.Dec.{leb, ltb}
-use lib.ListN.{length, take, drop, replicate, length-take, length-drop, take-append-drop, drop_of_length-le}
+use lib.ListN.{length, take, drop, length-take, length-drop, take-append-drop, drop_of_length-le}
 use lib.Seq.{take_all}
 use lib.Pow.{are_bytes}
 use borrow.Author.Tests.{le-leb, eq-eqb, leb-true, leb-false}
@@ -18,7 +19,6 @@ use Rattle.lists.proofs.Runs.{over_none}
 use Rattle.cable_frame.specs.Frame.{frame, frame_size, most_frames, most_bytes, frame_count, frames_from, sent}
 use Rattle.cable_scan.specs.Scan.{stretches_on, stretches}
 use Rattle.cable_judge.specs.Judge.{agrees, right_size, Outcome, outcome, verdict}
-use Rattle.cable_judge.specs.declared.answers.Feeding.TheVariants as Feeding
 use Rattle.cable_head.proofs.Heads.{short_none}
 use Rattle.cable.specs.Runs.{Fresh, run_of, answered, feeds, told, all_accepted}
 use Rattle.cable.proofs.Cutting.{any-cut}
@@ -75,7 +75,7 @@ rest_back (suc k) n m c t out a b e f g h =
     let r : List ℕ = frames_from k (n + 1) m (drop frame_size t) in
     let room : n * frame_size + length t ≤ length out = h (omega arith) in
     let fits : n * frame_size + length d ≤ length out = omega (arith, length-take frame_size t) in
-    let v : verdict n c out (frame n m d) ≡ outcome (Feeding.Accepted (length d)) (n + 1) m (over (n * frame_size) d out) =
+    let v : verdict n c out (frame n m d) ≡ outcome (Ok (length d)) (n + 1) m (over (n * frame_size) d out) =
     accepts n m d c out (omega arith) b e (size-right n m k t a f) (bytes_take frame_size t g) fits in
     let l : length (over (n * frame_size) d out) ≡ length out = length_over (n * frame_size) d out fits in
     let i = rest_back k (n + 1) m m (drop frame_size t) (over (n * frame_size) d out) (omega arith) b (agrees-same m) (omega (arith, length-drop frame_size t)) (bytes_drop frame_size t g)
@@ -83,8 +83,8 @@ rest_back (suc k) n m c t out a b e f g h =
     ap (λ (j : ℕ). told n c out (stretches_on 0 [] (frame n m d ++ frames_from k j m (drop frame_size t)))) (sym (add-one n))
     ∙ ap (told n c out) (frame-stretch n m d r)
     ∙ ap (λ (o : Outcome). answered o.answer (told o.awaited o.count o.out (stretches_on 0 [] r))) v
-    ∙ ap (answered (Feeding.Accepted (length d))) i
-    ∙ ap (λ (o : List ℕ). run_of (Feeding.Accepted (length d) ∷ all_accepted k (drop frame_size t)) o []) (over-cut n t out room)
+    ∙ ap (answered (Ok (length d))) i
+    ∙ ap (λ (o : List ℕ). run_of (Ok (length d) ∷ all_accepted k (drop frame_size t)) o []) (over-cut n t out room)
 
 -- a table of 1 to 16,777,216 bytes, its text fed in any cuts to a fresh head with room: every frame is accepted, and the table stands at the front of the output
 pub comes_back : (h t out ns : List ℕ) → Fresh h → 1 ≤ length t → length t ≤ most_bytes → are_bytes t ≡ true → length t ≤ length out

@@ -1,17 +1,16 @@
 -- Any cutting of a text gives its stretches the same answers, and the output the same bytes.
 use mathlib.Core.Path.{◌≡◌, refl, sym, ap, ◌∙◌}
 use mathlib.Core.List.{List, [], ◌∷◌, ◌++◌}
-use mathlib.Core.Bool.{Bool, true, false}
 use Prim.Native.Nat.{ℕ, ◌+◌, ◌-◌, ◌≤◌}
 use native.Mathlib.Omega.{arith}
 use lib.ListN.{length, take, drop, replicate, length-take, take-append-drop}
 use lib.Seq.{drop-append-le, drop-length, take_all}
 use borrow.Author.Tests.{le-ltb}
-use Rattle.lists.specs.Lists.{pick}
+use Rattle.std.specs.Prelude.{Option, Some, None}
 use Rattle.big_endian.specs.BigEndian.{read_from}
 use Rattle.cable_scan.specs.Scan.{differs, stretches_on, stretches}
 use Rattle.cable_judge.specs.Judge.{Outcome, verdict}
-use Rattle.cable_head.specs.Feed.{len_at, line_at, awaited_at, count_at, held_at, held_size, head_need, number_at, len_of, held_of, head_with, scan_of, taken_of, stretch_with, verdict_with, Left, fed_on, fed_end, feed_step}
+use Rattle.cable_head.specs.Feed.{len_at, line_at, awaited_at, count_at, held_at, held_size, head_need, number_at, len_of, held_of, head_with, scan_of, taken_of, stretch_with, verdict_with, Left, fed_on, fed_end, fed_by, feed_step}
 use Rattle.cable.specs.Runs.{Fresh, Run, answered, feeds, told}
 use Rattle.cable.proofs.Cuts.{On, cut_on, Ended, cut-end}
 use Rattle.cable.proofs.Held.{with-length, line_read, awaited-read, count-read, held-read, take_again, verdict-held, Small, verdict-small, scan-small}
@@ -73,23 +72,23 @@ module _ (h p u r out : List ℕ) (q : Holds h p) where
   held_more : (v : List ℕ) → stretch_with h v ≡ take held_size (p ++ v)
   held_more v = ap (λ (x : List ℕ). take held_size (x ++ v)) q.text ∙ take_again held_size p v
 
-  step-on : (scan_of h u).ended ≡ false → Steps h p u r out (fed_on h u out)
-  step-on e =
-      let o : On 0 (number_at line_at h) p u r = cut_on 0 (number_at line_at h) p u r e in
+  step-on : (line : ℕ) → (scan_of h u).line ≡ Some line → Steps h p u r out (fed_on line h u out)
+  step-on line e =
+      let o : On 0 (number_at line_at h) line p u r = cut_on 0 (number_at line_at h) line p u r e in
       let k : (scan_of h u).taken ≡ length u = o.all ∙ omega arith in
       let w : taken_of h u ≡ u = take_all (scan_of h u).taken u (omega arith) in
-      let l : (scan_of h u).line ≤ differs = scan-small 0 (number_at line_at h) u q.line in
+      let l : line ≤ differs = scan-small 0 (number_at line_at h) line u q.line e in
       let f : stretch_with h (taken_of h u) ≡ take held_size (p ++ u) = held_more (taken_of h u) ∙ ap (λ (x : List ℕ). take held_size (p ++ x)) w in
       record {
         after = p ++ u;
-        holds = written-holds (stretch_with h (taken_of h u)) (scan_of h u).line n c h (p ++ u) q.long f l q.small;
+        holds = written-holds (stretch_with h (taken_of h u)) line n c h (p ++ u) q.long f l q.small;
         goes =
-            written-told (stretch_with h (taken_of h u)) (scan_of h u).line n c h (p ++ u) q.long f l q.small out (drop (scan_of h u).taken u ++ r)
+            written-told (stretch_with h (taken_of h u)) line n c h (p ++ u) q.long f l q.small out (drop (scan_of h u).taken u ++ r)
             ∙ rw (k, drop-length u) (ap (told n c out) (sym o.on));
         most = omega arith;
       }
 
-  step_end : (scan_of h u).ended ≡ true → Steps h p u r out (fed_end h u out)
+  step_end : (scan_of h u).line ≡ None → Steps h p u r out (fed_end h u out)
   unfolding told
   step_end e =
       let o : Ended 0 (number_at line_at h) p u r = cut-end 0 (number_at line_at h) p u r e in
@@ -110,11 +109,11 @@ module _ (h p u r out : List ℕ) (q : Holds h p) where
 
   pub step : Steps h p u r out (feed_step h u out)
   unfolding feed_step
-  step = rw (le-ltb (length h) head_need q.long) (by (scan_of h u).ended refl)
+  step = rw (le-ltb (length h) head_need q.long) (by (scan_of h u).line refl)
     where
-      by : (t : Bool) → (scan_of h u).ended ≡ t → Steps h p u r out (pick t (fed_end h u out) (fed_on h u out))
-      by true e = step_end e
-      by false e = step-on e
+      by : (t : Option ℕ) → (scan_of h u).line ≡ t → Steps h p u r out (fed_by t h u out)
+      by None e = step_end e
+      by (Some line) e = step-on line e
 
 pub cut-run : (ns h p t out : List ℕ) → Holds h p → (feeds h out t ns).left ≡ [] → feeds h out t ns ≡ told_of h p out t
 unfolding feeds told stretches_on

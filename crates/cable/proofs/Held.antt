@@ -8,6 +8,7 @@ use lib.Dec.{eqb, leb}
 use lib.ListN.{length, take, drop, get_or, length-take, length-append}
 use lib.Seq.{take_all, take_at, drop_at, take-append-le, take-take, length-take-le}
 use borrow.Author.Tests.{lt-ltb, leb-true, leb-false}
+use Rattle.std.specs.Prelude.{Some, None, Err}
 use Rattle.lists.specs.Lists.{pick, part, over}
 use Rattle.lists.proofs.Over.{length_over}
 use Rattle.lists.proofs.Tests.{same-lengths}
@@ -18,7 +19,7 @@ use Rattle.text.proofs.Decimals.{width-ten}
 use Rattle.cable_frame.specs.Frame.{check_key, line_feed, frame, most_frames}
 use Rattle.cable_frame.proofs.LinesPut.{length-frame}
 use Rattle.cable_scan.specs.Scan.{agreed, differs, line_next, ends, scanned, scan_on}
-use Rattle.cable_judge.specs.declared.answers.Feeding.TheVariants as Feeding
+use Rattle.cable_judge.specs.declared.answers.NoFrame.TheVariants as NoFrame
 use Rattle.cable_judge.specs.Judge.{told_count, told_size, told_data, is_awaited, fits_out, accepted, outcome, verdict}
 use Rattle.cable_judge.proofs.Verdicts.{Told, right, same, awaited-split, right-facts, length-data}
 use Rattle.cable_head.specs.Feed.{len_at, line_at, awaited_at, count_at, held_at, held_size, head_need, number_at, len_of, held_of, numbers, head_with}
@@ -121,7 +122,7 @@ long-refused n c s h = awaited-split n c s ∙ by (right n c s) refl
         let f : Told n m c (told_size n m s) s = right-facts n c s e in
         same-lengths eqb s (frame n m d) (λ k. omega (arith, k, length-frame n m d, length-data n c s e, f.size, width-ten n, width-ten m))
 
-verdict-long : (n c : ℕ) (out s : List ℕ) → held_size ≤ length s → verdict n c out s ≡ outcome Feeding.NotAwaited n c out
+verdict-long : (n c : ℕ) (out s : List ℕ) → held_size ≤ length s → verdict n c out s ≡ outcome (Err NoFrame.NotAwaited) n c out
 unfolding verdict
 verdict-long n c out s h = rw (long-refused n c s h)
 
@@ -146,8 +147,8 @@ unfolding verdict
 verdict-small n c out s h = by (is_awaited n c s) refl (fits_out n (told_size n (told_count n s) s) (length out))
   where
     by : (x : Bool) → is_awaited n c s ≡ x → (y : Bool)
-        → Small (pick x (pick y (accepted n (told_count n s) s out) (outcome Feeding.OutputShort n c out)) (outcome Feeding.NotAwaited n c out)).awaited
-        (pick x (pick y (accepted n (told_count n s) s out) (outcome Feeding.OutputShort n c out)) (outcome Feeding.NotAwaited n c out)).count
+        → Small (pick x (pick y (accepted n (told_count n s) s out) (outcome (Err NoFrame.OutputShort) n c out)) (outcome (Err NoFrame.NotAwaited) n c out)).awaited
+        (pick x (pick y (accepted n (told_count n s) s out) (outcome (Err NoFrame.OutputShort) n c out)) (outcome (Err NoFrame.NotAwaited) n c out)).count
     by true e true =
         let f : Told n (told_count n s) c (told_size n (told_count n s) s) s = right-facts n c s (and_left (right n c s) (same n c s) (sym (awaited-split n c s) ∙ e)) in
         record { awaited = omega (arith, f.below, f.most); count = f.most }
@@ -163,11 +164,12 @@ next_small line b h = by (eqb b line_feed) (leb agreed line) refl (eqb b (get_or
     by false false e true = let k : line < agreed = leb-false agreed line e in omega arith
     by false false e false = omega arith
 
-pub scan-small : (k line : ℕ) (t : List ℕ) → line ≤ differs → (scan_on k line t).line ≤ differs
+pub scan-small : (k line m : ℕ) (t : List ℕ) → line ≤ differs → (scan_on k line t).line ≡ Some m → m ≤ differs
 unfolding scan_on
-scan-small k line [] h = h
-scan-small k line (b ∷ t) h = by (ends line b) (scan-small (k + 1) (line_next line b) t (next_small line b h))
+scan-small k line m [] h e = let l : line ≡ m = cc in omega arith
+scan-small k line m (b ∷ t) h e = by (ends line b) (scan-small (k + 1) (line_next line b) m t (next_small line b h)) e
   where
-    by : (e : Bool) → (scan_on (k + 1) (line_next line b) t).line ≤ differs → (pick e (scanned (k + 1) true 0) (scan_on (k + 1) (line_next line b) t)).line ≤ differs
-    by true i = omega arith
-    by false i = i
+    by : (x : Bool) → ((scan_on (k + 1) (line_next line b) t).line ≡ Some m → m ≤ differs)
+        → (pick x (scanned (k + 1) None) (scan_on (k + 1) (line_next line b) t)).line ≡ Some m → m ≤ differs
+    by true i f = absurd (cc)
+    by false i f = i f

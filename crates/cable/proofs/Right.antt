@@ -1,4 +1,5 @@
 -- A stretch's answer without a word of how it is read: 0 or 10 for the awaited frame as sending writes it, 17 for anything else.
+use Rattle.std.specs.Prelude.{Result, Ok, Err}
 use mathlib.Core.Path.{◌≡◌, refl, sym, ap, ◌∙◌}
 use mathlib.Core.List.{List, [], ◌∷◌}
 use mathlib.Core.Bool.{Bool, true, false, ◌&&◌}
@@ -12,8 +13,7 @@ use Rattle.lists.specs.Lists.{pick, over, Exactly}
 use Rattle.lists.proofs.Same.{same-equal, and_left, and_right}
 use Rattle.text_hex.specs.Hex.{pair_value, bytes_of}
 use Rattle.cable_frame.specs.Frame.{frame, frame_size}
-use Rattle.cable_judge.specs.declared.answers.Feeding.{Feeding}
-use Rattle.cable_judge.specs.declared.answers.Feeding.TheVariants as Feeding
+use Rattle.cable_judge.specs.declared.answers.NoFrame.{NoFrame}
 use Rattle.cable_judge.specs.Judge.{told_count, told_size, told_data, is_awaited, fits_out, accepted, Outcome, outcome, verdict}
 use Rattle.cable_judge.proofs.Verdicts.{Told, right, same, awaited-split, right-facts, length-data}
 use Rattle.cable_head.specs.Feed.{feed_number}
@@ -51,32 +51,32 @@ module _ (n c : ℕ) (out s : List ℕ) where
       }
 
   pub answer-frame : (m : ℕ) (d : List ℕ) → Awaited n c s m d
-      → verdict n c out s ≡ pick (fits_out n (length d) (length out)) (outcome (Feeding.Accepted (length d)) (n + 1) m (over (n * frame_size) d out)) (outcome Feeding.OutputShort n c out)
+      → verdict n c out s ≡ pick (fits_out n (length d) (length out)) (outcome (Ok (length d)) (n + 1) m (over (n * frame_size) d out)) (outcome (Err NoFrame.OutputShort) n c out)
   answer-frame m d a = rw a.text (answers n m d c out a.below a.most a.agreed a.size a.bytes)
 
-  refused : is_awaited n c s ≡ false → verdict n c out s ≡ outcome Feeding.NotAwaited n c out
+  refused : is_awaited n c s ≡ false → verdict n c out s ≡ outcome (Err NoFrame.NotAwaited) n c out
   unfolding verdict
   refused e = rw e
 
-  pub answer-other : ((m : ℕ) (d : List ℕ) → Awaited n c s m d → ⊥) → verdict n c out s ≡ outcome Feeding.NotAwaited n c out
+  pub answer-other : ((m : ℕ) (d : List ℕ) → Awaited n c s m d → ⊥) → verdict n c out s ≡ outcome (Err NoFrame.NotAwaited) n c out
   answer-other h = by (is_awaited n c s) refl
     where
-      by : (t : Bool) → is_awaited n c s ≡ t → verdict n c out s ≡ outcome Feeding.NotAwaited n c out
+      by : (t : Bool) → is_awaited n c s ≡ t → verdict n c out s ≡ outcome (Err NoFrame.NotAwaited) n c out
       by true e = absurd (h M (told_data n M s) (awaited e))
       by false e = refused e
 
 -- once all frames are in, any stretch is told 17
-pub all_in : (m : ℕ) (out s : List ℕ) → 1 ≤ m → verdict m m out s ≡ outcome Feeding.NotAwaited m m out
+pub all_in : (m : ℕ) (out s : List ℕ) → 1 ≤ m → verdict m m out s ≡ outcome (Err NoFrame.NotAwaited) m m out
 all_in m out s h = answer-other m m out s (λ k d a. by k a.below (eqb m k) refl (rw (ne_eqb m 0 (λ e. omega arith)) at a.agreed))
   where
     by : (k : ℕ) → m < k → (t : Bool) → eqb m k ≡ t → t ≡ true → ⊥
     by k b t e f = omega (arith, eqb-true m k (e ∙ f))
 
-one : (n c : ℕ) (out s : List ℕ) (l : List Feeding) → length (more (verdict n c out s).answer l) ≡ suc (length l)
+one : (n c : ℕ) (out s : List ℕ) (l : List (Result ℕ NoFrame)) → length (more (verdict n c out s).answer l) ≡ suc (length l)
 unfolding verdict
 one n c out s l = by (is_awaited n c s) (fits_out n (told_size n (told_count n s) s) (length out))
   where
-    by : (x y : Bool) → length (more (pick x (pick y (accepted n (told_count n s) s out) (outcome Feeding.OutputShort n c out)) (outcome Feeding.NotAwaited n c out)).answer l) ≡ suc (length l)
+    by : (x y : Bool) → length (more (pick x (pick y (accepted n (told_count n s) s out) (outcome (Err NoFrame.OutputShort) n c out)) (outcome (Err NoFrame.NotAwaited) n c out)).answer l) ≡ suc (length l)
     by true true = refl
     by true false = refl
     by false y = refl
@@ -86,7 +86,7 @@ pub accepted-exactly : (n c : ℕ) (out s : List ℕ) → Exactly (feed_number (
 accepted-exactly n c out s = record { only = only; when = when }
   where
     fits : (x : Bool) → fits_out n (length (told_data n (told_count n s) s)) (length out) ≡ x → Awaited n c s (told_count n s) (told_data n (told_count n s) s)
-        → feed_number (pick x (outcome (Feeding.Accepted (length (told_data n (told_count n s) s))) (n + 1) (told_count n s) (over (n * frame_size) (told_data n (told_count n s) s) out)) (outcome Feeding.OutputShort n c out)).answer ≡ 0
+        → feed_number (pick x (outcome (Ok (length (told_data n (told_count n s) s))) (n + 1) (told_count n s) (over (n * frame_size) (told_data n (told_count n s) s) out)) (outcome (Err NoFrame.OutputShort) n c out)).answer ≡ 0
         → Rightly n c s out
     fits true e a h = record { count = told_count n s; bytes = told_data n (told_count n s) s; frame = a; room = leb-true _ (length out) e }
     fits false e a h = absurd (let z : ◌≡◌ {A = ℕ} 10 0 = h in omega arith)

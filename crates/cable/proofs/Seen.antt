@@ -1,4 +1,5 @@
 -- A frame as sending writes it tells its count and its data, and is judged right.
+use Rattle.std.specs.Prelude.{Ok, Err}
 use mathlib.Core.Path.{◌≡◌, refl, ap, ◌∙◌}
 use mathlib.Core.List.{List, ◌∷◌, ◌++◌, append_assoc}
 use mathlib.Core.Bool.{true}
@@ -21,7 +22,7 @@ use Rattle.text.proofs.Decimals.{decimal-read}
 use Rattle.text_hex.proofs.Pairs.{length_pairs, pairs-read}
 use Rattle.cable_frame.specs.Frame.{frame_key, of_key, data_key, check_key, line_feed, line_of, checked, frame, frame_size, most_frames}
 use Rattle.cable_frame.proofs.LinesPut.{length-line, length-frame}
-use Rattle.cable_judge.specs.declared.answers.Feeding.TheVariants as Feeding
+use Rattle.cable_judge.specs.declared.answers.NoFrame.TheVariants as NoFrame
 use Rattle.cable_compare.specs.Compare.{count_from, data_from}
 use Rattle.cable_judge.specs.Judge.{told_count, told_size, told_data, agrees, right_size, is_frame, fits_out, outcome, verdict}
 
@@ -80,7 +81,7 @@ module _ (n m : ℕ) (d : List ℕ) where
 
   -- while it is awaited, it is answered 0 with its data in the output, or 10 where they find no room
   pub answers : (c : ℕ) (out : List ℕ) → n < m → m ≤ most_frames → agrees c m ≡ true → right_size n m (length d) ≡ true → are_bytes d ≡ true
-      → verdict n c out (frame n m d) ≡ pick (fits_out n (length d) (length out)) (outcome (Feeding.Accepted (length d)) (n + 1) m (over (n * frame_size) d out)) (outcome Feeding.OutputShort n c out)
+      → verdict n c out (frame n m d) ≡ pick (fits_out n (length d) (length out)) (outcome (Ok (length d)) (n + 1) m (over (n * frame_size) d out)) (outcome (Err NoFrame.OutputShort) n c out)
   unfolding verdict is_frame holds
   answers c out a b e f g =
       let k : told_count n (frame n m d) ≡ m = count-told (omega arith) in
@@ -88,5 +89,5 @@ module _ (n m : ℕ) (d : List ℕ) where
       rw (k, size-told, data-told g, s, lt-ltb n m a, le-leb m most_frames b, e, f)
 
   pub accepts : (c : ℕ) (out : List ℕ) → n < m → m ≤ most_frames → agrees c m ≡ true → right_size n m (length d) ≡ true → are_bytes d ≡ true
-      → n * frame_size + length d ≤ length out → verdict n c out (frame n m d) ≡ outcome (Feeding.Accepted (length d)) (n + 1) m (over (n * frame_size) d out)
+      → n * frame_size + length d ≤ length out → verdict n c out (frame n m d) ≡ outcome (Ok (length d)) (n + 1) m (over (n * frame_size) d out)
   accepts c out a b e f g h = answers c out a b e f g ∙ rw (le-leb (n * frame_size + length d) (length out) h)

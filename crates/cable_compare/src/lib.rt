@@ -8,7 +8,7 @@ ghost use Rattle.cable_frame.specs.Frame.{frame_size};
 ghost use Rattle.cable_compare.specs.Compare.{behind_data, data_from, front_of, behind_with, Compares};
 
 use cable_data::read_pairs;
-use cable_frame::framing::check_begun;
+use cable_frame::framing::Place;
 use cable_frame::lines::{put_check, put_number};
 
 // How many characters stand before the count besides the number, between the count and the data, and behind the data.
@@ -21,23 +21,27 @@ pub const BEHIND_DATA: usize = 16;
 // How many characters stand before the data at most.
 const FRONT: usize = 36;
 
-pub fn data_from(n: u32, m: u32) -> usize
-    ensures { result ≡ data_from n m }
+// Where the data stand in a frame.
+pub fn data_from(place: Place) -> usize
+    ensures { result ≡ data_from place.number place.count }
 {
-    text::decimal::width(n) + BEFORE_COUNT + text::decimal::width(m) + BEFORE_DATA
+    text::decimal::width(place.number)
+        + BEFORE_COUNT
+        + text::decimal::width(place.count)
+        + BEFORE_DATA
 }
 
-// Whether what stands before the data in frame n of m is what stands in front of a stretch.
-fn is_front(front: &[u8], n: u32, m: u32) -> bool
-    ensures { result ≡ same_list eqb front.now (front_of n m) }
+// Whether what stands before the data in a frame is what stands in front of a stretch.
+fn is_front(front: &[u8], place: Place) -> bool
+    ensures { result ≡ same_list eqb front.now (front_of place.number place.count) }
 {
     let mut again = [0u8; FRONT];
-    let a = put_number(&mut again, 0, b"frame=", n);
-    let b = put_number(&mut again, a, b"of=", m);
+    let a = put_number(&mut again, 0, b"frame=", place.number);
+    let b = put_number(&mut again, a, b"of=", place.count);
     let key = b"data=";
     memory_copy::copy(&mut again, b, key);
     let end = b + key.len();
-    memory_compare::bytes::equal(front, &again[..end])
+    memory_compare::equal(front, &again[..end])
 }
 
 // Whether a line feed and the check's line are what stands behind the data in a stretch.
@@ -47,20 +51,20 @@ fn is_behind(behind: &[u8], check: u32) -> bool
     let mut again = [0u8; BEHIND_DATA];
     again[0] = b'\n';
     put_check(&mut again, 1, check);
-    memory_compare::bytes::equal(behind, &again)
+    memory_compare::equal(behind, &again)
 }
 
-// Whether a stretch is frame n of m with its data of `size` bytes, as sending writes it; if so the data go to the front of `body`.
-pub fn is_text(s: &[u8], n: u32, m: u32, size: usize, body: &mut [u8]) -> bool
-    requires { (data_from n m + size * 2 + behind_data ≤ length s.now) × (size ≤ frame_size) × (frame_size ≤ length body.old) }
-    ensures { Compares n m size s.now result body.new }
+// Whether a stretch is the frame at a place with its data of `size` bytes, as sending writes it; if so the data go to the front of `body`.
+pub fn is_text(s: &[u8], place: Place, size: usize, body: &mut [u8]) -> bool
+    requires { (data_from place.number place.count + size * 2 + behind_data ≤ length s.now) × (size ≤ frame_size) × (frame_size ≤ length body.old) }
+    ensures { Compares place.number place.count size s.now result body.new }
 {
-    let at = data_from(n, m);
+    let at = data_from(place);
     let end = at + size * 2;
-    if !is_front(&s[..at], n, m) {
+    if !is_front(&s[..at], place) {
         return false;
     }
-    let p = read_pairs(check_begun(n, m), body, &s[at..end]);
+    let p = read_pairs(place.check_begun(), body, &s[at..end]);
     if !p.all {
         return false;
     }

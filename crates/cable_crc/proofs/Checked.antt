@@ -1,34 +1,18 @@
--- Remainders of lists: a byte at a time, one list behind the other; and the check value of the catalogue.
+-- Remainders of lists, in a form that the checker computes; and the check value of the catalogue.
 use mathlib.Core.Path.{◌≡◌, refl, sym}
 use mathlib.Core.Bool.{true}
-use mathlib.Core.List.{List, [], ◌∷◌, ◌++◌}
-use Prim.Native.Nat.{ℕ, ◌+◌, ◌^◌, ◌≤◌, ◌<◌}
-use lib.ListN.{length, drop, get_or, drop_of_length-le}
+use mathlib.Core.List.{List, [], ◌∷◌}
+use Prim.Native.Nat.{ℕ, ◌^◌, ◌<◌}
 use lib.Bits.{bit_xor, xor_lt}
 use lib.Dec.{ltb, lit<}
 use borrow.Author.Tests.{ltb-true}
 use Rattle.lists.proofs.Same.{and_left, and_right}
 use lib.Pow.{are_bytes}
 use native.Mathlib.Omega.{arith}
-use Rattle.lists.proofs.Runs.{drop-first}
 use Rattle.cable_crc.specs.Crc.{mask, byte_divided, divided, crc32}
 use Rattle.cable_crc.proofs.Xor.{quick_xor, quick-xor}
 use Rattle.cable_crc.proofs.Division.{bits_below, quick_bits, quick-bits}
 
-pub divided-next : (r i : ℕ) (l : List ℕ) → i < length l → divided (byte_divided r (get_or l i 0)) (drop (i + 1) l) ≡ divided r (drop i l)
-unfolding divided
-divided-next r i l h = rw (drop-first i l h)
-
-pub divided-all : (r i : ℕ) (l : List ℕ) → length l ≤ i → divided r (drop i l) ≡ r
-unfolding divided
-divided-all r i l h = rw (drop_of_length-le l {i = i} h)
-
-pub divided-append : (r : ℕ) (l m : List ℕ) → divided r (l ++ m) ≡ divided (divided r l) m
-unfolding divided
-divided-append r [] m = refl
-divided-append r (b ∷ l) m = divided-append (byte_divided r b) l m
-
--- ---- in a form that the checker computes
 byte-below : (r b : ℕ) → r < 2 ^ 32 → b < 256 → byte_divided r b < 2 ^ 32
 unfolding byte_divided
 byte-below r b h k = bits_below 8 (bit_xor r b) (xor_lt 32 r b h (omega arith))

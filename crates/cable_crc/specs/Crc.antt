@@ -1,5 +1,5 @@
 -- CRC-32 by bitwise division: reflected, polynomial EDB88320, start and final mask FFFFFFFF. In the catalogue: CRC-32/ISO-HDLC.
-use Rattle.std.specs.Prelude.{ℕ, zero, suc, ◌/◌, ◌%◌, ◌<◌, ◌≡◌, List, [], ◌∷◌, eqb, get_or}
+use Rattle.std.specs.Prelude.{ℕ, zero, suc, ◌/◌, ◌%◌, ◌<◌, ◌≡◌, List, eqb, fold, get_or}
 use Rattle.std.specs.Int.Bits.{bit_xor}
 use Rattle.lists.specs.Lists.{pick}
 
@@ -24,8 +24,7 @@ byte_divided r b = bits_divided 8 (bit_xor r b)
 
 -- the remainder after more bytes
 unfoldable pub divided : ℕ → List ℕ → ℕ
-divided r [] = r
-divided r (b ∷ l) = divided (byte_divided r b) l
+divided r l = fold byte_divided r l
 
 -- the check that a remainder gives
 abbrev pub finished : ℕ → ℕ

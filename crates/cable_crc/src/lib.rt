@@ -71,25 +71,13 @@ pub fn next(table: &[u32; 256], remainder: u32, byte: u8) -> u32
 }
 
 // The remainder after all bytes of a slice.
-fn run_by(table: &[u32; 256], remainder: u32, bytes: &[u8]) -> u32
-    requires { RightTable table.now }
-    ensures { result ≡ divided remainder bytes.now }
-{
-    let mut rest = remainder;
-    let mut i = 0;
-    while i < bytes.len() {
-        rest = next(table, rest, bytes[i]);
-        i += 1;
-    }
-    rest
-}
-
-// The same.
 pub fn run(remainder: u32, bytes: &[u8]) -> u32
     ensures { result ≡ divided remainder bytes.now }
 {
     let table = remainders();
-    run_by(&table, remainder, bytes)
+    bytes
+        .iter()
+        .fold(remainder, |rest, byte| next(&table, rest, *byte))
 }
 
 // The check that a remainder gives once all bytes are in.

@@ -17,42 +17,25 @@ pub struct Pairs {
     pub remainder: u32,
 }
 
-// Reads the bytes of hex pairs into the front of `body` by the tables. A character that is no digit is read as 0.
-fn read_by(
-    values: &[u8; CHARACTERS],
-    table: &[u32; 256],
-    remainder: u32,
-    body: &mut [u8],
-    s: &[u8],
-) -> Pairs
-    requires { RightValues values.now × RightTable table.now × (length s.now ≤ length body.old * 2) × (length s.now % 2 ≡ 0) }
-    ensures { (result ≡ pairs_of remainder s.now) × (body.new ≡ over 0 (bytes_of s.now) body.old) }
-{
-    let n = s.len() / 2;
-    let mut all = true;
-    let mut rest = remainder;
-    let mut i = 0;
-    while i < n {
-        let high = value_by(values, s[i * 2]);
-        let low = value_by(values, s[i * 2 + 1]);
-        let byte = pair_of(high, low);
-        body[i] = byte;
-        rest = next(table, rest, byte);
-        all = all & (high < BASE) & (low < BASE);
-        i += 1;
-    }
-    Pairs {
-        all,
-        remainder: rest,
-    }
-}
-
-// The same.
+// Reads the bytes of hex pairs into the front of `body`. A character that is no digit is read as 0.
 pub fn read_pairs(remainder: u32, body: &mut [u8], s: &[u8]) -> Pairs
     requires { (length s.now ≤ length body.old * 2) × (length s.now % 2 ≡ 0) }
     ensures { (result ≡ pairs_of remainder s.now) × (body.new ≡ over 0 (bytes_of s.now) body.old) }
 {
     let values = values();
     let table = remainders();
-    read_by(&values, &table, remainder, body, s)
+    let mut all = true;
+    let mut rest = remainder;
+    for i in 0..s.len() / 2 {
+        let high = value_by(&values, s[i * 2]);
+        let low = value_by(&values, s[i * 2 + 1]);
+        let byte = pair_of(high, low);
+        body[i] = byte;
+        rest = next(&table, rest, byte);
+        all = all & (high < BASE) & (low < BASE);
+    }
+    Pairs {
+        all,
+        remainder: rest,
+    }
 }

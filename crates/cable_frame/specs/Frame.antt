@@ -1,22 +1,22 @@
 -- A table as frames of text: what sending writes.
-use Rattle.std.specs.Prelude.{ℕ, zero, suc, ◌+◌, ◌-◌, ◌*◌, ◌/◌, List, [], ◌∷◌, ◌++◌, length, take, drop}
+use Rattle.std.specs.Prelude.{ℕ, zero, suc, ◌+◌, ◌-◌, ◌*◌, ◌/◌, List, [], ◌∷◌, ◌++◌, codes, length, take, drop}
 use Rattle.big_endian.specs.BigEndian.{big_endian}
 use Rattle.cable_crc.specs.Crc.{crc32}
 use Rattle.text.specs.Decimal.{width, decimal}
 use Rattle.text_hex.specs.Hex.{hex_word, hex_pairs}
 
--- "frame=", "of=", "data=" and "check="
+-- the keys of the four lines
 abbrev pub frame_key : List ℕ
-frame_key = 102 ∷ 114 ∷ 97 ∷ 109 ∷ 101 ∷ 61 ∷ []
+frame_key = codes "frame="
 
 abbrev pub of_key : List ℕ
-of_key = 111 ∷ 102 ∷ 61 ∷ []
+of_key = codes "of="
 
 abbrev pub data_key : List ℕ
-data_key = 100 ∷ 97 ∷ 116 ∷ 97 ∷ 61 ∷ []
+data_key = codes "data="
 
 abbrev pub check_key : List ℕ
-check_key = 99 ∷ 104 ∷ 101 ∷ 99 ∷ 107 ∷ 61 ∷ []
+check_key = codes "check="
 
 abbrev pub line_feed : ℕ
 line_feed = 10

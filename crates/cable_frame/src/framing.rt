@@ -12,39 +12,48 @@ const NUMBER: usize = 4;
 // The characters of a frame that are always there: keys, line feeds, check.
 const FIXED: usize = 32;
 
-// The remainder of number and count, with which the check of frame n of m begins.
-pub fn check_begun(n: u32, m: u32) -> u32
-    ensures { result ≡ divided mask (numbered n m) }
-{
-    let mut front = [0u8; 8];
-    big_endian::write(&mut front, 0, NUMBER, n as u64);
-    big_endian::write(&mut front, NUMBER, NUMBER, m as u64);
-    cable_crc::run(cable_crc::begin(), &front)
+// A frame's number, and how many frames there are.
+#[derive(Clone, Copy)]
+pub struct Place {
+    pub number: u32,
+    pub count: u32,
 }
 
-// The check of frame n of m.
-fn check_of(n: u32, m: u32, body: &[u8]) -> u32
-    ensures { result ≡ crc32 (checked n m body.now) }
-{
-    cable_crc::finish(cable_crc::run(check_begun(n, m), body))
-}
+impl Place {
+    // The remainder of number and count, with which the frame's check begins.
+    pub fn check_begun(self) -> u32
+        ensures { result ≡ divided mask (numbered self.number self.count) }
+    {
+        let mut front = [0u8; 8];
+        big_endian::write(&mut front, 0, NUMBER, self.number as u64);
+        big_endian::write(&mut front, NUMBER, NUMBER, self.count as u64);
+        cable_crc::run(cable_crc::begin(), &front)
+    }
 
-// How long frame n of m is with so many bytes of data.
-pub fn length_of(n: u32, m: u32, size: usize) -> usize
-    requires { size ≤ frame_size }
-    ensures { result ≡ frame_length n m size }
-{
-    text::decimal::width(n) + text::decimal::width(m) + size * 2 + FIXED
-}
+    // The frame's check, with its data.
+    fn check_of(self, body: &[u8]) -> u32
+        ensures { result ≡ crc32 (checked self.number self.count body.now) }
+    {
+        cable_crc::finish(cable_crc::run(self.check_begun(), body))
+    }
 
-// Writes frame n of m from `at` on, and tells where it ends.
-pub fn put_frame(out: &mut [u8], at: usize, n: u32, m: u32, body: &[u8]) -> usize
-    requires { at + frame_length n m (length body.now) ≤ length out.old }
-    ensures { (result ≡ at + frame_length n m (length body.now)) × (out.new ≡ over at (frame n m body.now) out.old) }
-{
-    let check = check_of(n, m, body);
-    let a = put_number(out, at, b"frame=", n);
-    let b = put_number(out, a, b"of=", m);
-    let c = put_body(out, b, body);
-    put_check(out, c, check)
+    // How long the frame is with so many bytes of data.
+    pub fn length_of(self, size: usize) -> usize
+        requires { size ≤ frame_size }
+        ensures { result ≡ frame_length self.number self.count size }
+    {
+        text::decimal::width(self.number) + text::decimal::width(self.count) + size * 2 + FIXED
+    }
+
+    // Writes the frame from `at` on, and tells where it ends.
+    pub fn put_frame(self, out: &mut [u8], at: usize, body: &[u8]) -> usize
+        requires { at + frame_length self.number self.count (length body.now) ≤ length out.old }
+        ensures { (result ≡ at + frame_length self.number self.count (length body.now)) × (out.new ≡ over at (frame self.number self.count body.now) out.old) }
+    {
+        let check = self.check_of(body);
+        let a = put_number(out, at, b"frame=", self.number);
+        let b = put_number(out, a, b"of=", self.count);
+        let c = put_body(out, b, body);
+        put_check(out, c, check)
+    }
 }

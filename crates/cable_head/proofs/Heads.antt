@@ -77,9 +77,9 @@ module _ (h t : List ℕ) (full : head_need ≤ length h) where
   length-stretch = ap length stretch-is ∙ omega (arith, length-append (held_of h) more, length-held, length-take (held_size - len_of h) t)
 
   -- as much as there is room for
-  module _ (len k : ℕ) (el : len ≡ len_of h) (ek : k ≡ min (held_size - len) (length t)) where
+  module _ (len k : ℕ) (el : len ≡ len_of h) (ek : k ≡ min (length t) (held_size - len)) where
     most-is : take k t ≡ more
-    most-is = take-least (held_size - len_of h) k t (ek ∙ rw el)
+    most-is = take-least (held_size - len_of h) k t (omega (arith, ek, el))
 
     pub kept-length : len + k ≡ length (stretch_with h t)
     kept-length = omega (arith, length-stretch)
@@ -106,7 +106,7 @@ module _ (h t : List ℕ) (full : head_need ≤ length h) where
       eq ∙ rw (ep, ee) (rw n at (over-before a (stretch_with h t) h (omega arith)))
 
   -- nothing is held: the stretch is all in t
-  pub direct : (k : ℕ) → len_of h ≡ 0 → k ≡ min held_size (length t) → take k t ≡ stretch_with h t
+  pub direct : (k : ℕ) → len_of h ≡ 0 → k ≡ min (length t) held_size → take k t ≡ stretch_with h t
   direct k z e =
-      take-least held_size k t e
+      take-least held_size k t (omega (arith, e))
       ∙ sym (stretch-is ∙ ap₂ (λ (x : List ℕ) (j : ℕ). x ++ take (held_size - j) t) (short_none (held_of h) (omega (arith, length-held))) z)

@@ -1,12 +1,13 @@
 -- docs/RULES.md, 13.6 and 13.7: the head's bytes, what a feed does to them, and what it answers.
-use Rattle.std.specs.Prelude.{ℕ, ◌+◌, min, ◌≡◌, List, [], ◌++◌, Bool, false, eqb, ltb, length, take}
+use Rattle.std.specs.Prelude.{ℕ, ◌+◌, min, ◌≡◌, List, [], ◌++◌, Bool, false, eqb, ltb, length, take, Option, Some, None, Result, Ok, Err}
 use Rattle.lists.specs.Lists.{pick, part, over}
 use Rattle.big_endian.specs.BigEndian.{big_endian, read_big}
 use Rattle.cable_scan.specs.Scan.{scan_on}
 use Rattle.cable_scan.specs.declared.Scanned.{Scanned}
 use Rattle.cable_judge.specs.Judge.{Outcome, verdict}
-use Rattle.cable_judge.specs.declared.answers.Feeding.{Feeding}
-use Rattle.cable_judge.specs.declared.answers.Feeding.TheVariants as Feeding
+use Rattle.cable_judge.specs.Number.{no_frame_number}
+use Rattle.cable_judge.specs.declared.answers.NoFrame.{NoFrame}
+use Rattle.cable_judge.specs.declared.settling.Awaiting.{Awaiting}
 use Rattle.cable_head.specs.declared.answers.Fed.{Fed}
 
 -- ---- the head's bytes: four numbers, then the held text
@@ -48,6 +49,10 @@ len_of h = min (number_at len_at h) held_size
 abbrev pub held_of : List ℕ → List ℕ
 held_of h = part held_at (held_at + len_of h) h
 
+-- what is awaited
+abbrev pub awaiting_in : List ℕ → Awaiting
+awaiting_in h = record { number = number_at awaited_at h; count = number_at count_at h }
+
 -- the four numbers' bytes
 abbrev pub numbers : ℕ → ℕ → ℕ → ℕ → List ℕ
 numbers len line awaited count = big_endian number_size len ++ (big_endian number_size line ++ (big_endian number_size awaited ++ big_endian number_size count))
@@ -81,24 +86,29 @@ head_on line u h = head_with (stretch_with h u) line (number_at awaited_at h) (n
 
 -- the answer, how many bytes were taken, and the head and the output after it
 pub record Left : Type 0 where
-  pub answer : Feeding
+  pub answer : Result ℕ NoFrame
   pub taken : ℕ
   pub head : List ℕ
   pub out : List ℕ
 
-abbrev pub left_of : Feeding → ℕ → List ℕ → List ℕ → Left
+abbrev pub left_of : Result ℕ NoFrame → ℕ → List ℕ → List ℕ → Left
 left_of a k h o = record { answer = a; taken = k; head = h; out = o }
 
 abbrev pub fed_end : List ℕ → List ℕ → List ℕ → Left
 fed_end h t out =
     left_of (verdict_with h (taken_of h t) out).answer (scan_of h t).taken (head_ended (verdict_with h (taken_of h t) out) h) (verdict_with h (taken_of h t) out).out
 
-abbrev pub fed_on : List ℕ → List ℕ → List ℕ → Left
-fed_on h t out = left_of Feeding.Unended (scan_of h t).taken (head_on (scan_of h t).line (taken_of h t) h) out
+abbrev pub fed_on : ℕ → List ℕ → List ℕ → List ℕ → Left
+fed_on line h t out = left_of (Err NoFrame.Unended) (scan_of h t).taken (head_on line (taken_of h t) h) out
+
+-- by the line under way, which there is none of where a stretch ended
+abbrev pub fed_by : Option ℕ → List ℕ → List ℕ → List ℕ → Left
+fed_by None h t out = fed_end h t out
+fed_by (Some line) h t out = fed_on line h t out
 
 -- a feed of t: a short head takes nothing; else it stops at the first stretch's end with that stretch's answer, or takes all
 unfoldable pub feed_step : List ℕ → List ℕ → List ℕ → Left
-feed_step h t out = pick (ltb (length h) head_need) (left_of Feeding.HeadShort 0 h out) (pick (scan_of h t).ended (fed_end h t out) (fed_on h t out))
+feed_step h t out = pick (ltb (length h) head_need) (left_of (Err NoFrame.HeadShort) 0 h out) (fed_by (scan_of h t).line h t out)
 
 -- what a call left behind
 abbrev pub fed_left : Fed → List ℕ → List ℕ → Left
@@ -109,15 +119,12 @@ unfoldable pub is_whole : List ℕ → Bool
 is_whole h = pick (ltb (length h) head_need) false (pick (eqb (number_at count_at h) 0) false (eqb (number_at awaited_at h) (number_at count_at h)))
 
 -- the answers' numbers
-abbrev pub feed_number : Feeding → ℕ
-feed_number (Feeding.Accepted k) = 0
-feed_number Feeding.OutputShort = 10
-feed_number Feeding.NotAwaited = 17
-feed_number Feeding.Unended = 18
-feed_number Feeding.HeadShort = 13
+abbrev pub feed_number : Result ℕ NoFrame → ℕ
+feed_number (Ok size) = 0
+feed_number (Err why) = no_frame_number why
 
 -- the end of a stretch with u left this answer, head and output
-pub record Concludes (h u o : List ℕ) (a : Feeding) (h' o' : List ℕ) : Type 0 where
+pub record Concludes (h u o : List ℕ) (a : Result ℕ NoFrame) (h' o' : List ℕ) : Type 0 where
   pub answer : a ≡ (verdict_with h u o).answer
   pub head : h' ≡ head_ended (verdict_with h u o) h
   pub out : o' ≡ (verdict_with h u o).out

@@ -10,13 +10,15 @@ use borrow.Author.Tests.{le-leb, lt-leb, ltb-true, leb-true}
 use Rattle.lists.specs.Lists.{pick, part, over, holds, same_list}
 use Rattle.lists.proofs.Runs.{length_part}
 use Rattle.lists.proofs.Same.{and_left, and_right}
-use Rattle.cable_judge.specs.declared.answers.Feeding.TheVariants as Feeding
+use Rattle.std.specs.Bool.{then_some}
+use Rattle.std.specs.Prelude.{Some, None, Ok, Err}
+use Rattle.cable_judge.specs.declared.answers.NoFrame.TheVariants as NoFrame
 use Rattle.cable_judge.specs.declared.judging.Judged.{Judged}
 use Rattle.text_hex.proofs.Pairs.{length-bytes}
 use Rattle.cable_frame.specs.Frame.{frame_size, most_frames, frame}
 use Rattle.cable_compare.specs.Compare.{behind_data, data_from, Compares}
 use Rattle.cable_judge.specs.Judge.{told_count, told_size, told_data, agrees, right_size, is_frame, is_awaited, outcome, verdict}
-use Rattle.cable_judge.specs.Judged.{not_judged, tells, told, weighed, Judges}
+use Rattle.cable_judge.specs.Judged.{tells, told, weighed, Judges}
 
 -- what right count and size say in numbers
 pub record Told (n m count k : ℕ) (s : List ℕ) : Type 0 where
@@ -89,35 +91,35 @@ module _ (n count : ℕ) (s : List ℕ) where
     pub whole : w ≡ told n s
     pub facts : Told n w.count count w.size s
 
-  pub weighs : (w : Judged) → w ≡ weighed n count s → w.ok ≡ true → Weighs w
+  pub weighs : (w : Judged) → Some w ≡ weighed n count s → Weighs w
   unfolding weighed
-  weighs w e f = by right refl e
+  weighs w e = by right refl e
     where
-      by : (t : Bool) → right ≡ t → w ≡ pick t (told n s) not_judged → Weighs w
-      by true g h = record { good = g; whole = h; facts = rw h (right-facts g) }
-      by false g h = absurd (false≢true (sym (ap (λ (x : Judged). x.ok) h) ∙ f))
+      by : (t : Bool) → right ≡ t → Some w ≡ pick t (Some (told n s)) None → Weighs w
+      by true g h = let v : w ≡ told n s = cc in record { good = g; whole = v; facts = rw v (right-facts g) }
+      by false g h = absurd (cc)
 
-  not-awaited : (body : List ℕ) → is_awaited n count s ≡ false → Judges n count s not_judged body
+  not-awaited : (body : List ℕ) → is_awaited n count s ≡ false → Judges n count s None body
   not-awaited body a = record { answer = rw a; bytes = λ (k : is_awaited n count s ≡ true). absurd (false≢true (sym a ∙ k)) }
 
-  judge-wrong : (body : List ℕ) → right ≡ false → Judges n count s not_judged body
+  judge-wrong : (body : List ℕ) → right ≡ false → Judges n count s None body
   judge-wrong body g = not-awaited body (awaited-split ∙ rw g)
 
   -- no frame has such a number
-  pub judge-high : (body : List ℕ) → most_frames ≤ n → Judges n count s not_judged body
+  pub judge-high : (body : List ℕ) → most_frames ≤ n → Judges n count s None body
   judge-high body h = by right refl
     where
-      by : (t : Bool) → right ≡ t → Judges n count s not_judged body
+      by : (t : Bool) → right ≡ t → Judges n count s None body
       by true g = let f : Told n M count K s = right-facts g in absurd (omega (arith, f.below, f.most))
       by false g = judge-wrong body g
 
-  pub judge-untold : (w : Judged) (body : List ℕ) → w ≡ weighed n count s → w.ok ≡ false → Judges n count s w body
+  pub judge-untold : (body : List ℕ) → None ≡ weighed n count s → Judges n count s None body
   unfolding weighed
-  judge-untold w body e f = by right refl e
+  judge-untold body e = by right refl e
     where
-      by : (t : Bool) → right ≡ t → w ≡ pick t (told n s) not_judged → Judges n count s w body
-      by true g h = absurd (false≢true (sym f ∙ ap (λ (x : Judged). x.ok) h))
-      by false g h = rw h (judge-wrong body g)
+      by : (t : Bool) → right ≡ t → None ≡ pick t (Some (told n s)) None → Judges n count s None body
+      by true g h = absurd (cc)
+      by false g h = judge-wrong body g
 
   -- ---- the text, compared
   module _ (w : Judged) (h : Weighs w) (t : Bool) (x : List ℕ) (c : Compares n w.count w.size s t x) where
@@ -125,49 +127,49 @@ module _ (n count : ℕ) (s : List ℕ) where
     unfolding told_data
     text_same = c.same ∙ rw h.whole
 
-    pub judged-other : t ≡ false → Judges n count s not_judged x
-    judged-other e = not-awaited x (awaited-split ∙ rw (h.good, sym text_same ∙ e))
-
-    pub judged-done : t ≡ true → Judges n count s w x
+    pub judged : Judges n count s (then_some t w) x
     unfolding told_data
-    judged-done e =
-        let a : is_awaited n count s ≡ true = awaited-split ∙ rw (h.good, sym text_same ∙ e) in
-        let b = rw h.whole at (c.bytes e) in
-        rw h.whole (record { answer = rw a; bytes = λ k. b })
+    judged = by t refl
+      where
+        by : (b : Bool) → t ≡ b → Judges n count s (then_some b w) x
+        by true e =
+            let a : is_awaited n count s ≡ true = awaited-split ∙ rw (h.good, sym text_same ∙ e) in
+            let d = rw h.whole at (c.bytes e) in
+            rw h.whole (record { answer = rw a; bytes = λ k. d })
+        by false e = not-awaited x (awaited-split ∙ rw (h.good, sym text_same ∙ e))
 
   -- ---- each way through settling
-  module _ (out body : List ℕ) (j : Judged) (h : Judges n count s j body) where
+  pub settle-bad : (out body : List ℕ) → Judges n count s None body → verdict n count out s ≡ outcome (Err NoFrame.NotAwaited) n count out
+  unfolding verdict
+  settle-bad out body h = by (is_awaited n count s) refl h.answer
+    where
+      by : (t : Bool) → is_awaited n count s ≡ t → None ≡ pick t (Some (told n s)) None → verdict n count out s ≡ outcome (Err NoFrame.NotAwaited) n count out
+      by true g e = absurd (cc)
+      by false g e = rw g
+
+  module _ (out body : List ℕ) (j : Judged) (h : Judges n count s (Some j) body) where
     pub record Settles : Type 0 where
       pub good : is_awaited n count s ≡ true
       pub facts : Told n j.count count j.size s
       pub whole : j ≡ told n s
 
-    pub settles : j.ok ≡ true → Settles
-    settles f = by (is_awaited n count s) refl h.answer
+    pub settles : Settles
+    settles = by (is_awaited n count s) refl h.answer
       where
-        by : (t : Bool) → is_awaited n count s ≡ t → j ≡ pick t (told n s) not_judged → Settles
-        by true g e = record { good = g; facts = rw e (right-facts (and_left right same (sym awaited-split ∙ g))); whole = e }
-        by false g e = absurd (false≢true (sym (ap (λ (x : Judged). x.ok) e) ∙ f))
+        by : (t : Bool) → is_awaited n count s ≡ t → Some j ≡ pick t (Some (told n s)) None → Settles
+        by true g e = let v : j ≡ told n s = cc in record { good = g; facts = rw v (right-facts (and_left right same (sym awaited-split ∙ g))); whole = v }
+        by false g e = absurd (cc)
 
-    pub settle-bad : j.ok ≡ false → verdict n count out s ≡ outcome Feeding.NotAwaited n count out
+    pub settle-full : length out < n * frame_size + j.size → verdict n count out s ≡ outcome (Err NoFrame.OutputShort) n count out
     unfolding verdict
-    settle-bad f = by (is_awaited n count s) refl h.answer
-      where
-        by : (t : Bool) → is_awaited n count s ≡ t → j ≡ pick t (told n s) not_judged → verdict n count out s ≡ outcome Feeding.NotAwaited n count out
-        by true g e = absurd (false≢true (sym f ∙ ap (λ (x : Judged). x.ok) e))
-        by false g e = rw g
-
-    pub settle-full : j.ok ≡ true → length out < n * frame_size + j.size → verdict n count out s ≡ outcome Feeding.OutputShort n count out
-    unfolding verdict
-    settle-full f r =
-        let g : Settles = settles f in
+    settle-full r =
+        let g : Settles = settles in
         let k : length out < n * frame_size + K = rw (ap (λ (x : Judged). x.size) g.whole) at r in
         rw (g.good, lt-leb (n * frame_size + K) (length out) k)
 
-    pub settle-done : j.ok ≡ true → n * frame_size + j.size ≤ length out
-        → verdict n count out s ≡ outcome (Feeding.Accepted j.size) (n + 1) j.count (over (n * frame_size) (take j.size body) out)
+    pub settle-done : n * frame_size + j.size ≤ length out → verdict n count out s ≡ outcome (Ok j.size) (n + 1) j.count (over (n * frame_size) (take j.size body) out)
     unfolding verdict
-    settle-done f r =
-        let g : Settles = settles f in
+    settle-done r =
+        let g : Settles = settles in
         let k : n * frame_size + K ≤ length out = rw (ap (λ (x : Judged). x.size) g.whole) at r in
         rw (g.good, le-leb (n * frame_size + K) (length out) k, g.whole, h.bytes g.good)

@@ -1,24 +1,17 @@
 -- docs/RULES.md, 13.5: a stretch's answer, from its bytes and what is awaited alone. It is accepted if it is just the awaited frame as sending
 -- writes it and its bytes find room.
-use Rattle.std.specs.Prelude.{ℕ, ◌+◌, ◌-◌, ◌*◌, ◌/◌, List, [], ◌∷◌, Bool, ◌&&◌, ◌||◌, eqb, leb, ltb, length, take, drop}
+use Rattle.std.specs.Prelude.{ℕ, ◌+◌, ◌-◌, ◌*◌, ◌/◌, List, [], ◌∷◌, Bool, ◌&&◌, ◌||◌, eqb, leb, ltb, length, take, drop, unwrap_or, Result, Ok, Err}
 use Rattle.lists.specs.Lists.{pick, part, over, holds, same_list}
 use Rattle.text.specs.Digits.{span}
 use Rattle.text.specs.Decimal.{read_number}
 use Rattle.text_hex.specs.Hex.{bytes_of}
-use Rattle.text.specs.declared.decimal.Number.{Number}
-use Rattle.text.specs.declared.decimal.Number.TheVariants as Number
 use Rattle.cable_frame.specs.Frame.{frame, frame_size, most_frames}
 use Rattle.cable_compare.specs.Compare.{behind_data, count_from, data_from}
-use Rattle.cable_judge.specs.declared.answers.Feeding.{Feeding}
-use Rattle.cable_judge.specs.declared.answers.Feeding.TheVariants as Feeding
-
-abbrev pub or_none : Number → ℕ
-or_none (Number.Is m) = m
-or_none Number.Not = 0
+use Rattle.cable_judge.specs.declared.answers.NoFrame.{NoFrame}
 
 -- what a stretch tells if it is frame n: the count (0 where there is none), how many bytes of data, and the data
 unfoldable pub told_count : ℕ → List ℕ → ℕ
-told_count n s = or_none (read_number (take (span 10 (drop (count_from n) s)) (drop (count_from n) s)))
+told_count n s = unwrap_or (read_number (take (span 10 (drop (count_from n) s)) (drop (count_from n) s))) 0
 
 unfoldable pub told_size : ℕ → ℕ → List ℕ → ℕ
 told_size n m s = (length s - (data_from n m + behind_data)) / 2
@@ -48,19 +41,19 @@ fits_out n k room = leb (n * frame_size + k) room
 
 -- the answer; what is awaited next, and of how many; the output
 pub record Outcome : Type 0 where
-  pub answer : Feeding
+  pub answer : Result ℕ NoFrame
   pub awaited : ℕ
   pub count : ℕ
   pub out : List ℕ
 
-abbrev pub outcome : Feeding → ℕ → ℕ → List ℕ → Outcome
+abbrev pub outcome : Result ℕ NoFrame → ℕ → ℕ → List ℕ → Outcome
 outcome a n c o = record { answer = a; awaited = n; count = c; out = o }
 
 abbrev pub accepted : ℕ → ℕ → List ℕ → List ℕ → Outcome
-accepted n m s out = outcome (Feeding.Accepted (told_size n m s)) (n + 1) m (over (n * frame_size) (told_data n m s) out)
+accepted n m s out = outcome (Ok (told_size n m s)) (n + 1) m (over (n * frame_size) (told_data n m s) out)
 
 unfoldable pub verdict : ℕ → ℕ → List ℕ → List ℕ → Outcome
 verdict n count out s =
     pick (is_awaited n count s)
-    (pick (fits_out n (told_size n (told_count n s) s) (length out)) (accepted n (told_count n s) s out) (outcome Feeding.OutputShort n count out))
-    (outcome Feeding.NotAwaited n count out)
+    (pick (fits_out n (told_size n (told_count n s) s) (length out)) (accepted n (told_count n s) s out) (outcome (Err NoFrame.OutputShort) n count out))
+    (outcome (Err NoFrame.NotAwaited) n count out)

@@ -1,134 +1,85 @@
 // A whole stretch judged: whether it is the awaited frame as sending writes it. What it tells is read; then it is compared with that frame.
 ghost use Rattle.std.specs.Prelude.{◌≡◌, ◌≤◌, ◌<◌, length};
 ghost use Rattle.cable_frame.specs.Frame.{frame_size};
-ghost use Rattle.cable_judge.specs.Judge.{or_none, told_count, told_size, agrees, right_size};
-ghost use Rattle.cable_judge.specs.Judged.{not_judged, weighed, Judges};
+ghost use Rattle.cable_judge.specs.Judge.{told_count, told_size, agrees, right_size};
+ghost use Rattle.cable_judge.specs.Judged.{weighed, Judges};
 
+use crate::settling::Awaiting;
 use cable_compare::{BEFORE_COUNT, BEHIND_DATA, data_from, is_text};
+use cable_frame::framing::Place;
 use cable_send::sending::{FRAME, MOST_FRAMES};
-use text::decimal::Number;
 
-// Whether a stretch is the awaited frame; if so the count it tells and how many bytes of data.
+// What the awaited frame tells: how many frames there are, and how many bytes of data it has.
 #[derive(Clone, Copy)]
 pub struct Judged {
-    pub ok: bool,
-    pub count: u64,
+    pub count: u32,
     pub size: usize,
 }
 
+// The count that a stretch tells as frame n, 0 where there is none.
 fn told_count(n: u32, s: &[u8]) -> u32
     ensures { result ≡ told_count n s.now }
 {
-    let at = text::decimal::width(n) + BEFORE_COUNT;
-    if s.len() < at {
+    let Some(rest) = s.get(text::decimal::width(n) + BEFORE_COUNT..) else {
         return 0;
-    }
-    let end = at + text::digits::span(&s[at..], text::digits::DECIMAL);
-    or_none(text::decimal::read_number(&s[at..end]))
+    };
+    let end = text::digits::span(rest, text::digits::DECIMAL);
+    text::decimal::read_number(&rest[..end]).unwrap_or(0)
 }
 
-fn or_none(told: Number) -> u32
-    ensures { result ≡ or_none told }
+// How many bytes of data a stretch has as the frame at a place.
+fn told_size(place: Place, s: &[u8]) -> usize
+    ensures { result ≡ told_size place.number place.count s.now }
 {
-    match told {
-        Number::Is(m) => m,
-        Number::Not => 0,
-    }
-}
-
-fn told_size(n: u32, m: u32, s: &[u8]) -> usize
-    ensures { result ≡ told_size n m s.now }
-{
-    let rest = data_from(n, m) + BEHIND_DATA;
-    if s.len() < rest {
-        return 0;
-    }
-    (s.len() - rest) / 2
+    s.len().saturating_sub(data_from(place) + BEHIND_DATA) / 2
 }
 
 fn agreed(count: u64, m: u64) -> bool
     ensures { result ≡ agrees count m }
 {
-    if count == 0 {
-        return true;
-    }
-    count == m
+    count == 0 || count == m
 }
 
-fn right_size(n: u32, m: u32, size: usize) -> bool
-    requires { n < m }
-    ensures { result ≡ right_size n m size }
+fn right_size(place: Place, size: usize) -> bool
+    requires { place.number < place.count }
+    ensures { result ≡ right_size place.number place.count size }
 {
-    if size < 1 {
-        return false;
-    }
-    if FRAME < size {
-        return false;
-    }
-    if size == FRAME {
-        return true;
-    }
-    n + 1 == m
-}
-
-fn refused() -> Judged
-    ensures { result ≡ not_judged }
-{
-    Judged {
-        ok: false,
-        count: 0,
-        size: 0,
-    }
+    1 <= size && size <= FRAME && (size == FRAME || place.number + 1 == place.count)
 }
 
 // What a stretch tells as frame n, where count and size are right.
-fn weigh(n: u32, count: u64, s: &[u8]) -> Judged
-    ensures { result ≡ weighed n count s.now }
+#[tactic(auto, unfolding(crate::specs::Judged::weighed, lists::specs::Lists::holds))]
+fn weigh(number: u32, count: u64, s: &[u8]) -> Option<Judged>
+    ensures { result ≡ weighed number count s.now }
 {
-    let m = told_count(n, s);
-    if m <= n {
-        return refused();
+    let m = told_count(number, s);
+    if m <= number || MOST_FRAMES < m as usize {
+        return None;
     }
-    if MOST_FRAMES < m as usize {
-        return refused();
-    }
-    let told = m as u64;
-    if !agreed(count, told) {
-        return refused();
-    }
-    let size = told_size(n, m, s);
-    if !right_size(n, m, size) {
-        return refused();
-    }
-    Judged {
-        ok: true,
-        count: told,
-        size,
-    }
+    let place = Place { number, count: m };
+    let size = told_size(place, s);
+    (agreed(count, u64::from(m)) && right_size(place, size)).then_some(Judged { count: m, size })
 }
 
-fn judge_as(n: u32, count: u64, s: &[u8], body: &mut [u8]) -> Judged
+fn judge_as(number: u32, count: u64, s: &[u8], body: &mut [u8]) -> Option<Judged>
     requires { frame_size ≤ length body.old }
-    ensures { Judges n count s.now result body.new }
+    ensures { Judges number count s.now result body.new }
 {
-    let w = weigh(n, count, s);
-    if !w.ok {
-        return w;
-    }
-    let m = w.count as u32;
-    if !is_text(s, n, m, w.size, body) {
-        return refused();
-    }
-    w
+    let told = weigh(number, count, s)?;
+    let place = Place {
+        number,
+        count: told.count,
+    };
+    is_text(s, place, told.size, body).then_some(told)
 }
 
-// Judges a stretch as the awaited frame n; its data go to the front of `body`. A number that no frame has is not awaited by any.
-pub fn judge(n: u64, count: u64, s: &[u8], body: &mut [u8]) -> Judged
+// Judges a stretch as the awaited frame; its data go to the front of `body`. A number that no frame has is not awaited by any.
+pub fn judge(awaiting: Awaiting, s: &[u8], body: &mut [u8]) -> Option<Judged>
     requires { frame_size ≤ length body.old }
-    ensures { Judges n count s.now result body.new }
+    ensures { Judges awaiting.number awaiting.count s.now result body.new }
 {
-    if MOST_FRAMES as u64 <= n {
-        return refused();
+    if MOST_FRAMES as u64 <= awaiting.number {
+        return None;
     }
-    judge_as(n as u32, count, s, body)
+    judge_as(awaiting.number as u32, awaiting.count, s, body)
 }

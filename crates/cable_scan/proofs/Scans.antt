@@ -1,20 +1,22 @@
 -- A text scanned line by line: to the next line feed, how far the line agrees then, and what its line feed does.
 use mathlib.Core.Path.{◌≡◌, refl, sym, ap, ◌∙◌}
-use mathlib.Core.List.{List, [], ◌∷◌, ◌++◌}
-use mathlib.Core.Bool.{Bool, true, false, ◌&&◌, not, and_assoc, and-true}
+use mathlib.Core.List.{List, [], ◌∷◌, ◌++◌, append-nil}
+use mathlib.Core.Bool.{true, false, not}
 use Prim.Native.Nat.{ℕ, suc, ◌+◌, ◌-◌, ◌≤◌, ◌<◌}
 use native.Mathlib.Nat.{add-zero}
 use native.Mathlib.Omega.{arith}
 use lib.Dec.{eqb}
 use lib.ListN.{length, drop, get_or, drop_of_length-le}
-use borrow.Author.Tests.{eq-eqb, ne_eqb, le-leb, not-true}
+use borrow.Author.Tests.{eq-eqb, ne_eqb, eqb-true, le-leb, not-true}
+use Rattle.memchr.specs.Find.{Nowhere, NoneBefore, Passes, is_byte}
+use Rattle.std.specs.Prelude.{Some, None}
 use Rattle.lists.specs.Lists.{part}
-use Rattle.lists.proofs.Runs.{drop-first, length_part, part-first, part-last, part-drop}
-use Rattle.lists.proofs.Frames.{part_join}
+use Rattle.lists.proofs.Runs.{drop-first, length_part, part-rest, part-drop}
+use Rattle.lists.proofs.Parts.{get_or-part}
 use Rattle.lists.proofs.Same.{and_left, and_right}
 use Rattle.cable_frame.specs.Frame.{line_feed}
 use Rattle.cable_scan.specs.Scan.{agreed, line_next, line_on, scanned, scan_on}
-use Rattle.cable_scan.specs.Lines.{quiet, NextFeed}
+use Rattle.cable_scan.specs.Lines.{quiet}
 
 -- ---- no line feed
 
@@ -31,30 +33,10 @@ pub quiet-rest : (b : ℕ) (l : List ℕ) → quiet (b ∷ l) ≡ true → quiet
 unfolding quiet
 quiet-rest b l h = and_right (not (eqb b line_feed)) (quiet l) h
 
-module _ (a i : ℕ) (t : List ℕ) where
-  pub quiet_none : quiet (part a a t) ≡ true
-  unfolding quiet
-  quiet_none = let z : a - a ≡ 0 = omega arith in rw z
-
-  -- one character more that is none
-  pub quiet_next : a ≤ i → i < length t → (get_or t i 0 ≡ line_feed → ⊥) → quiet (part a i t) ≡ true → quiet (part a (i + 1) t) ≡ true
-  unfolding quiet
-  quiet_next h k d q =
-      rw (part-last a i t h k) (quiet-append (part a i t) (get_or t i 0 ∷ []) q (rw (ne_eqb (get_or t i 0) line_feed d)))
-
--- one more looked at, and all of them
-module _ (flag : Bool) (i e : ℕ) (t : List ℕ) where
-  pub quiet-look : i < e → e ≤ length t → ((flag && not (eqb (get_or t i 0) line_feed)) && quiet (part (i + 1) e t)) ≡ (flag && quiet (part i e t))
-  unfolding quiet
-  quiet-look h k = rw (part-first i e t h k, and_assoc)
-
-  pub quiet-looked : e ≤ i → (flag && quiet (part i e t)) ≡ flag
-  unfolding quiet
-  quiet-looked h = let z : e - i ≡ 0 = omega arith in rw (z, and-true)
-
--- two parts that meet
-pub quiet-join : (a m e : ℕ) (t : List ℕ) → a ≤ m → m ≤ e → quiet (part a m t) ≡ true → quiet (part m e t) ≡ true → quiet (part a e t) ≡ true
-quiet-join a m e t h k p q = rw (← part_join a m e t h k) (quiet-append (part a m t) (part m e t) p q)
+quiet-each : (l : List ℕ) → ((k : ℕ) → k < length l → get_or l k 0 ≡ line_feed → ⊥) → quiet l ≡ true
+unfolding quiet
+quiet-each [] h = refl
+quiet-each (b ∷ l) h = rw (ne_eqb b line_feed (h 0 (omega arith))) (quiet-each l (λ k i. h (suc k) (omega arith)))
 
 -- ---- a line
 
@@ -64,17 +46,49 @@ unfolding line_on
 line-settled line [] h q = refl
 line-settled line (b ∷ v) h q = rw (quiet-first b v q, le-leb agreed line h) (line-settled line v h (quiet-rest b v q))
 
-module _ (i e : ℕ) (t : List ℕ) (h : i < e) (k : e ≤ length t) where
-  pub line-turn : (line : ℕ) → line_on line (part i e t) ≡ line_on (line_next line (get_or t i 0)) (part (i + 1) e t)
+module _ (i : ℕ) (v : List ℕ) (h : i < length v) where
+  pub line-turn : (line : ℕ) → line_on line (drop i v) ≡ line_on (line_next line (get_or v i 0)) (drop (i + 1) v)
   unfolding line_on
-  line-turn line = rw (part-first i e t h k)
+  line-turn line = rw (drop-first i v h)
 
-  pub quiet-turn : quiet (part i e t) ≡ true → quiet (part (i + 1) e t) ≡ true
-  quiet-turn q = quiet-rest (get_or t i 0) (part (i + 1) e t) (rw (part-first i e t h k) at q)
+  pub quiet-turn : quiet (drop i v) ≡ true → quiet (drop (i + 1) v) ≡ true
+  quiet-turn q = quiet-rest (get_or v i 0) (drop (i + 1) v) (rw (drop-first i v h) at q)
 
-pub line-none : (line i e : ℕ) (t : List ℕ) → e ≤ i → line_on line (part i e t) ≡ line
+pub line-none : (line i : ℕ) (v : List ℕ) → length v ≤ i → line_on line (drop i v) ≡ line
 unfolding line_on
-line-none line i e t h = let z : e - i ≡ 0 = omega arith in rw z
+line-none line i v h = rw (drop_of_length-le v {i = i} h)
+
+-- ---- a line's end
+
+-- e is where the first line feed from a on stands
+pub record Fed (t : List ℕ) (a e : ℕ) : Type 0 where
+  pub from : a ≤ e
+  pub inside : e < length t
+  pub none : quiet (part a e t) ≡ true
+  pub here : get_or t e 0 ≡ line_feed
+
+-- what a search of the rest of a text for a line feed tells
+module _ (t : List ℕ) (a : ℕ) (h : a ≤ length t) where
+  rest_at : (k : ℕ) → a + k < length t → get_or (part a (length t) t) k 0 ≡ get_or t (a + k) 0
+  rest_at k i = get_or-part a (length t) k t i
+
+  pub feed-found : (n : ℕ) → NoneBefore (Passes (is_byte line_feed) (part a (length t) t)) 0 (length (part a (length t) t)) n
+      → Passes (is_byte line_feed) (part a (length t) t) n → Fed t a (a + n)
+  feed-found n f p =
+      let l : length (part a (length t) t) ≡ length t - a = length_part a (length t) t (omega arith) in
+      let r : a + n < length t = omega (arith, f.high) in
+      let m : length (part a (a + n) t) ≡ n = length_part a (a + n) t (omega arith) ∙ omega arith in
+      record {
+        from = omega arith;
+        inside = r;
+        none =
+            quiet-each (part a (a + n) t) (λ k i w.
+            f.before k (omega arith) (omega arith) (eq-eqb _ line_feed (rest_at k (omega arith) ∙ sym (get_or-part a (a + n) k t (omega arith)) ∙ w)));
+        here = sym (rest_at n r) ∙ eqb-true _ line_feed p;
+      }
+
+  pub feed-missed : Nowhere (Passes (is_byte line_feed) (part a (length t) t)) 0 (length (part a (length t) t)) → quiet (part a (length t) t) ≡ true
+  feed-missed f = quiet-each (part a (length t) t) (λ k i w. f k (omega arith) i (eq-eqb _ line_feed w))
 
 -- ---- the scan of a line
 
@@ -85,29 +99,26 @@ scan-quiet k line (b ∷ v) r q =
     let z : k + suc (length v) ≡ k + 1 + length v = omega arith in
     rw (quiet-first b v q, z) (rw (quiet-first b v q) at (scan-quiet (k + 1) (line_next line b) v r (quiet-rest b v q)))
 
-module _ (t : List ℕ) (i e line st : ℕ) (f : NextFeed t i e) (g : st ≡ line_on line (part i e t)) where
-  passed : scan_on i line (drop i t) ≡ scan_on e st (drop e t)
+module _ (t : List ℕ) (i e line st : ℕ) (f : Fed t i e) (g : st ≡ line_on line (part i e t)) where
+  passed : scan_on i line (drop i t) ≡ scan_on e st (line_feed ∷ drop (e + 1) t)
   passed =
-      let n : i + length (part i e t) ≡ e = omega (arith, length_part i e t f.most, f.from) in
-      ap (scan_on i line) (sym (part-drop i e t f.from)) ∙ scan-quiet i line (part i e t) (drop e t) f.none ∙ rw (n, g)
+      let n : i + length (part i e t) ≡ e = let m : e ≤ length t = omega (arith, f.inside) in omega (arith, length_part i e t m, f.from) in
+      let d : drop e t ≡ line_feed ∷ drop (e + 1) t = drop-first e t f.inside ∙ rw f.here in
+      ap (scan_on i line) (sym (part-drop i e t f.from)) ∙ scan-quiet i line (part i e t) (drop e t) f.none ∙ rw (n, g, d)
 
-  -- the text ends before the line does
-  pub line-last : e ≡ length t → scanned e false st ≡ scan_on i line (drop i t)
+  pub line-ends : st ≡ agreed → scanned (e + 1) None ≡ scan_on i line (drop i t)
   unfolding scan_on
-  line-last h = sym (passed ∙ rw (drop_of_length-le t {i = e} (omega arith)))
+  line-ends k = sym (passed ∙ rw (eq-eqb st agreed k))
 
-  module _ (h : e ≡ length t → ⊥) where
-    fed : drop e t ≡ line_feed ∷ drop (e + 1) t
-    fed = let k : e < length t = omega (arith, f.most) in drop-first e t k ∙ rw (f.here k)
+  pub line-on : (st ≡ agreed → ⊥) → scan_on (e + 1) 0 (drop (e + 1) t) ≡ scan_on i line (drop i t)
+  unfolding scan_on
+  line-on k = sym (passed ∙ rw (ne_eqb st agreed k))
 
-    pub line-ends : st ≡ agreed → scanned (e + 1) true 0 ≡ scan_on i line (drop i t)
-    unfolding scan_on
-    line-ends k = sym (passed ∙ rw (fed, eq-eqb st agreed k))
-
-    pub line-on : (st ≡ agreed → ⊥) → scan_on (e + 1) 0 (drop (e + 1) t) ≡ scan_on i line (drop i t)
-    unfolding scan_on
-    line-on k = sym (passed ∙ rw (fed, ne_eqb st agreed k))
-
-pub scan-none : (i line : ℕ) (t : List ℕ) → length t ≤ i → scan_on i line (drop i t) ≡ scanned i false line
+-- the text ends before the line does
+pub line-last : (t : List ℕ) (i line st : ℕ) → i ≤ length t → quiet (part i (length t) t) ≡ true → st ≡ line_on line (part i (length t) t)
+    → scanned (length t) (Some st) ≡ scan_on i line (drop i t)
 unfolding scan_on
-scan-none i line t h = rw (drop_of_length-le t {i = i} h)
+line-last t i line st h q g =
+    let n : i + length (part i (length t) t) ≡ length t = omega (arith, length_part i (length t) t (omega arith)) in
+    let d : part i (length t) t ++ [] ≡ drop i t = append-nil _ ∙ part-rest i t in
+    sym (ap (scan_on i line) (sym d) ∙ scan-quiet i line (part i (length t) t) [] q ∙ rw (n, g))

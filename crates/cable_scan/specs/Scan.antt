@@ -1,5 +1,5 @@
 -- docs/RULES.md, 13.4: where stretches end, at the line feed that ends a line starting `check=`.
-use Rattle.std.specs.Prelude.{ℕ, ◌+◌, List, [], ◌∷◌, ◌++◌, Bool, true, false, ◌&&◌, eqb, leb, get_or}
+use Rattle.std.specs.Prelude.{ℕ, ◌+◌, List, [], ◌∷◌, ◌++◌, Bool, ◌&&◌, eqb, leb, get_or, Option, Some, None}
 use Rattle.lists.specs.Lists.{pick}
 use Rattle.cable_frame.specs.Frame.{check_key, line_feed}
 use Rattle.cable_scan.specs.declared.Scanned.{Scanned}
@@ -24,13 +24,13 @@ line_on line (b ∷ l) = line_on (line_next line b) l
 abbrev pub ends : ℕ → ℕ → Bool
 ends line b = eqb b line_feed && eqb line agreed
 
-abbrev pub scanned : ℕ → Bool → ℕ → Scanned
-scanned taken ended line = record { taken = taken; ended = ended; line = line }
+abbrev pub scanned : ℕ → Option ℕ → Scanned
+scanned taken line = record { taken = taken; line = line }
 
 -- up to the first stretch's end or the text's, with so many characters passed before
 unfoldable pub scan_on : ℕ → ℕ → List ℕ → Scanned
-scan_on k line [] = scanned k false line
-scan_on k line (b ∷ l) = pick (ends line b) (scanned (k + 1) true 0) (scan_on (k + 1) (line_next line b) l)
+scan_on k line [] = scanned k (Some line)
+scan_on k line (b ∷ l) = pick (ends line b) (scanned (k + 1) None) (scan_on (k + 1) (line_next line b) l)
 
 -- the stretches of a text of which the stretch that is under way began with p; what comes after the last one's end is none
 unfoldable pub stretches_on : ℕ → List ℕ → List ℕ → List (List ℕ)

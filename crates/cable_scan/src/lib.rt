@@ -1,24 +1,25 @@
 // Where the first stretch of a text ends.
 #![tactic(auto)]
 
-ghost use Rattle.std.specs.Prelude.{◌≡◌, true, ◌≤◌, length};
-ghost use Rattle.lists.specs.Lists.{part};
+ghost use Rattle.std.specs.Prelude.{◌≡◌, true};
 ghost use Rattle.cable_scan.specs.Scan.{line_next, line_on, scan_on};
-ghost use Rattle.cable_scan.specs.Lines.{quiet, NextFeed};
+ghost use Rattle.cable_scan.specs.Lines.{quiet};
 
-// The start of the line that ends a stretch, how long it is, and what is said of a line that starts otherwise.
-const CHECK_KEY: [u8; 6] = [99, 104, 101, 99, 107, 61];
+use memchr::memchr;
+
+// The start of the line that ends a stretch, how long it is, and what is said of a line that starts otherwise. How far a line agrees is a number since a
+// head keeps it as one, and any number may stand there.
+const CHECK_KEY: &[u8; 6] = b"check=";
 
 const AGREED: u64 = 6;
 
 const DIFFERS: u64 = 7;
 
-// How many bytes were passed, whether a stretch ended with the last of them, and how far the line under way agrees with `check=`.
+// How many bytes were passed, and how far the line under way agrees with `check=`; none is under way where a stretch ended with the last of them.
 #[derive(Clone, Copy)]
 pub struct Scanned {
     pub taken: usize,
-    pub ended: bool,
-    pub line: u64,
+    pub line: Option<u64>,
 }
 
 fn line_next(line: u64, b: u8) -> u64
@@ -36,66 +37,17 @@ fn line_next(line: u64, b: u8) -> u64
     DIFFERS
 }
 
-// How many bytes are looked at without a branch.
-const RUN: usize = 32;
-
-// Whether no byte from `from` up to `end` is a line feed.
-fn run_quiet(text: &[u8], from: usize, end: usize) -> bool
-    requires { (from ≤ end) × (end ≤ length text.now) }
-    ensures { result ≡ quiet (part from end text.now) }
-{
-    let mut none = true;
-    let mut i = from;
-    while i < end {
-        none = none & (text[i] != b'\n');
-        i += 1;
-    }
-    none
-}
-
-// Where the first run begins that has a line feed or is cut short by the text's end.
-fn after_quiet_runs(text: &[u8], from: usize) -> usize
-    requires { from ≤ length text.now }
-    ensures { (from ≤ result) × (result ≤ length text.now) × (quiet (part from result text.now) ≡ true) }
-{
-    let mut i = from;
-    while RUN <= text.len() - i {
-        if !run_quiet(text, i, i + RUN) {
-            return i;
-        }
-        i += RUN;
-    }
-    i
-}
-
-// Where the next line feed stands, or the text's end where there is none.
-fn next_feed(text: &[u8], from: usize) -> usize
-    requires { from ≤ length text.now }
-    ensures { NextFeed text.now from result }
-{
-    let mut i = after_quiet_runs(text, from);
-    while i < text.len() {
-        if text[i] == b'\n' {
-            return i;
-        }
-        i += 1;
-    }
-    i
-}
-
-// How far a line agrees once its bytes from `from` up to `end` came too, of which none is a line feed. Once that is settled no byte is looked at.
-fn line_after(line: u64, text: &[u8], from: usize, end: usize) -> u64
-    requires { (from ≤ end) × (end ≤ length text.now) × (quiet (part from end text.now) ≡ true) }
-    ensures { result ≡ line_on line (part from end text.now) }
+// How far a line agrees once more of its bytes came, of which none is a line feed. Once that is settled no byte is looked at.
+fn line_after(line: u64, bytes: &[u8]) -> u64
+    requires { quiet bytes.now ≡ true }
+    ensures { result ≡ line_on line bytes.now }
 {
     let mut state = line;
-    let mut i = from;
-    while i < end {
+    for b in bytes {
         if AGREED <= state {
             return state;
         }
-        state = line_next(state, text[i]);
-        i += 1;
+        state = line_next(state, *b);
     }
     state
 }
@@ -105,30 +57,20 @@ pub fn scan(line: u64, text: &[u8]) -> Scanned
     ensures { result ≡ scan_on 0 line text.now }
 {
     let mut state = line;
-    let mut i = 0;
-    while i < text.len() {
-        let end = next_feed(text, i);
-        state = line_after(state, text, i, end);
-        if end == text.len() {
-            return Scanned {
-                taken: end,
-                ended: false,
-                line: state,
-            };
-        }
-        if state == AGREED {
+    let mut from = 0;
+    while let Some(size) = memchr(b'\n', &text[from..]) {
+        let end = from + size;
+        if line_after(state, &text[from..end]) == AGREED {
             return Scanned {
                 taken: end + 1,
-                ended: true,
-                line: 0,
+                line: None,
             };
         }
         state = 0;
-        i = end + 1;
+        from = end + 1;
     }
     Scanned {
-        taken: i,
-        ended: false,
-        line: state,
+        taken: text.len(),
+        line: Some(line_after(state, &text[from..])),
     }
 }

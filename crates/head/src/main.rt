@@ -2,9 +2,8 @@
 // frame is told on standard error, and so is a table that is not whole at the end. Tables of up to 65,536 bytes find room.
 #![tactic(auto)]
 
-use cable_head::answers::number_of;
 use cable_head::feeding::{feed, is_whole};
-use cable_judge::answers::Feeding;
+use cable_judge::answers::NoFrame;
 use std::io::Read;
 
 // How long a head is.
@@ -16,41 +15,21 @@ const ROOM: usize = 1 << 16;
 // How often standard input is read at the most: some 4 GiB of text.
 const READS: usize = 65000;
 
-// Numbers below this are added.
-const LARGE: usize = 1000000000;
-
-fn add(a: usize, b: usize) -> usize {
-    if LARGE <= a {
-        return a;
-    }
-    if LARGE <= b {
-        return a;
-    }
-    a + b
-}
-
 // A stretch that is not taken: 10 or 17.
-fn tell(errors: &impl Print, answer: Feeding) {
-    streams::write_all(errors, b"a stretch is told ");
-    streams::print_decimal(errors, number_of(answer));
-    streams::write_all(errors, b"\n");
+fn tell(errors: &impl Print, why: NoFrame) {
+    let _ = println!(errors; "a stretch is told {}", u64::from(why));
 }
 
 // How many bytes reached the table with an answer.
-fn heard(errors: &impl Print, answer: Feeding) -> usize {
+fn heard(errors: &impl Print, answer: Result<usize, NoFrame>) -> usize {
     match answer {
-        Feeding::Accepted(n) => return n,
-        Feeding::Unended => return 0,
-        _ => tell(errors, answer),
+        Ok(size) => size,
+        Err(NoFrame::Unended) => 0,
+        Err(why) => {
+            tell(errors, why);
+            0
+        }
     }
-    0
-}
-
-fn rest(text: &[u8], at: usize) -> &[u8] {
-    if text.len() <= at {
-        return &text[0..0];
-    }
-    &text[at..]
 }
 
 // What was read is fed, stretch by stretch; tells how many bytes of the table there are then.
@@ -62,17 +41,17 @@ fn feed_all(
     before: usize,
 ) -> usize {
     let mut length = before;
-    let mut at = 0;
-    let mut k = 0;
-    while k < text.len() {
-        if text.len() <= at {
-            return length;
+    let mut rest = text;
+    for _ in 0..text.len() {
+        let f = feed(head, rest, table);
+        length = length.saturating_add(heard(errors, f.answer));
+        rest = match rest.get(f.taken..) {
+            Some(left) => left,
+            None => break,
+        };
+        if rest.is_empty() {
+            break;
         }
-        let f = feed(head, rest(text, at), table);
-        let answer = f.answer;
-        length = add(length, heard(errors, answer));
-        at = add(at, f.taken);
-        k += 1;
     }
     length
 }
@@ -86,21 +65,19 @@ fn take_back(
     table: &mut [u8],
 ) -> usize {
     let mut length = 0;
-    let mut k = 0;
-    while k < READS {
+    for _ in 0..READS {
         let n = streams::read_full(from, text);
         if n == 0 {
-            return length;
+            break;
         }
-        length = feed_all(errors, head, &text[0..n], table, length);
-        k += 1;
+        length = feed_all(errors, head, &text[..n], table, length);
     }
     length
 }
 
 fn write(output: &impl Print, table: &[u8], length: usize) {
-    if length <= table.len() {
-        streams::write_all(output, &table[0..length]);
+    if let Some(bytes) = table.get(..length) {
+        streams::write_all(output, bytes);
     }
 }
 

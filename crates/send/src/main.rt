@@ -1,8 +1,7 @@
 // Writes the table of standard input as frames of text to standard output; a refusal goes to standard error.
 #![tactic(auto)]
 
-use answer::number_of;
-use cable_send::sending::{Sending, send};
+use cable_send::sending::send;
 use std::io::Read;
 
 // The longest table that is taken.
@@ -17,24 +16,19 @@ fn goes_on(from: &mut impl Read) -> bool {
     0 < streams::read_full(from, &mut one)
 }
 
-fn refuse(errors: &impl Print, n: u64) {
-    streams::write_all(errors, b"refused ");
-    streams::print_decimal(errors, n);
-    streams::write_all(errors, b"\n");
-}
-
 fn write(output: &impl Print, text: &[u8], length: usize) {
-    if length <= text.len() {
-        streams::write_all(output, &text[0..length]);
+    if let Some(sent) = text.get(..length) {
+        streams::write_all(output, sent);
     }
 }
 
 fn send_table(rt: HostRuntime, table: &[u8]) {
     let mut text: [u8; TEXT] = [0; TEXT];
-    let told = send(table, &mut text);
-    match told {
-        Sending::Done(n) => write(&rt.stdout(), &text, n),
-        Sending::Refused(why) => refuse(&rt.stderr(), number_of(why)),
+    match send(table, &mut text) {
+        Ok(length) => write(&rt.stdout(), &text, length),
+        Err(why) => {
+            let _ = println!(&rt.stderr(); "refused {}", u64::from(why));
+        }
     }
 }
 

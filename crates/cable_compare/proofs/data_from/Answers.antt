@@ -4,10 +4,10 @@ use Rattle.text.proofs.Decimals.{width-ten}
 use Rattle.cable_compare.proofs.data_from.Goals as goal
 
 pub overflow_add-result : goal.overflow_add-result
-overflow_add-result c = omega (arith, width-ten c.args.n)
+overflow_add-result c = omega (arith, width-ten c.args.place.number)
 
 pub overflow_add-result-2 : goal.overflow_add-result-2
-overflow_add-result-2 c = omega (arith, width-ten c.args.n, width-ten c.args.m)
+overflow_add-result-2 c = omega (arith, width-ten c.args.place.number, width-ten c.args.place.count)
 
 pub overflow_add-result-3 : goal.overflow_add-result-3
-overflow_add-result-3 c = omega (arith, width-ten c.args.n, width-ten c.args.m)
+overflow_add-result-3 c = omega (arith, width-ten c.args.place.number, width-ten c.args.place.count)

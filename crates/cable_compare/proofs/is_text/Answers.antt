@@ -14,16 +14,16 @@ pub returns-then-not-is_front : goal.returns-then-not-is_front
 returns-then-not-is_front c =
     let a = c.args in
     let e = c.data_from-at.ensures in
-    other-front a.n a.m a.size a.s.now c.requires.0 _ (c.is_front.ensures ∙ rw e) _ c.if-not-is_front.true
+    other-front a.place.number a.place.count a.size a.s.now c.requires.0 _ (c.is_front.ensures ∙ rw e) _ c.if-not-is_front.true
 
 pub returns-then-not-p : goal.returns-then-not-p
 returns-then-not-p c =
     let a = c.args in
     let e = c.data_from-at.ensures in
-    other-digits a.n a.m a.size a.s.now c.requires.0 _ (c.is_front.ensures ∙ rw e) c.if-not-is_front.false _ (ap (λ (p : Pairs). p.all) c.read_pairs-p.ensures.0 ∙ rw e) _ (not-true _ c.if-not-p.true)
+    other-digits a.place.number a.place.count a.size a.s.now c.requires.0 _ (c.is_front.ensures ∙ rw e) c.if-not-is_front.false _ (ap (λ (p : Pairs). p.all) c.read_pairs-p.ensures.0 ∙ rw e) _ (not-true _ c.if-not-p.true)
 
 pub returns : goal.returns
 returns c =
     let a = c.args in
     let e = c.data_from-at.ensures in
-    same-behind a.n a.m a.size a.s.now c.requires.0 _ (c.is_front.ensures ∙ rw e) c.if-not-is_front.false _ (ap (λ (p : Pairs). p.all) c.read_pairs-p.ensures.0 ∙ rw e) (not-false _ c.if-not-p.false) _ a.body.now (c.read_pairs-p.ensures.1 ∙ rw e) _ c.finish.result (c.finish.ensures ∙ rw (c.read_pairs-p.ensures.0, c.check_begun.ensures, e)) (c.is_behind.ensures ∙ rw e)
+    same-behind a.place.number a.place.count a.size a.s.now c.requires.0 _ (c.is_front.ensures ∙ rw e) c.if-not-is_front.false _ (ap (λ (p : Pairs). p.all) c.read_pairs-p.ensures.0 ∙ rw e) (not-false _ c.if-not-p.false) _ a.body.now (c.read_pairs-p.ensures.1 ∙ rw e) _ c.finish.result (c.finish.ensures ∙ rw (c.read_pairs-p.ensures.0, c.check_begun.ensures, e)) (c.is_behind.ensures ∙ rw e)

@@ -1,35 +1,31 @@
 -- What is left, scanned on from here, gives the scan of all.
-use Rattle.cable_scan.proofs.Scans.{line-last, line-ends, line-on, scan-none}
+use Rattle.cable_scan.proofs.Scans.{feed-found, feed-missed, line-last, line-ends, line-on}
 use native.Mathlib.Omega.{arith}
-use mathlib.Core.Path.{refl, sym, ◌∙◌}
-use borrow.Author.Rules.{rules}
+use mathlib.Core.Path.{◌∙◌}
 use Rattle.cable_scan.proofs.scan.Goals as goal
 
-pub loop-i-init : goal.loop-i-init
-loop-i-init c = (search rules, refl)
+pub line_after-requires : goal.line_after-requires
+line_after-requires c = let t = c.args.text.now in (feed-found t c.loop-size.from c.loop-size.invariant.0 c.in-Some.size c.in-Some.ensures.0 c.in-Some.ensures.1).none
 
-pub line_after-state-requires : goal.line_after-state-requires
-line_after-state-requires c = (c.next_feed-end.ensures.from, c.next_feed-end.ensures.most, c.next_feed-end.ensures.none)
+pub returns-then-line_after-eq-AGREED : goal.returns-then-line_after-eq-AGREED
+returns-then-line_after-eq-AGREED c =
+    let t = c.args.text.now in
+    let l = c.loop-size in
+    let f = feed-found t l.from l.invariant.0 c.in-Some.size c.in-Some.ensures.0 c.in-Some.ensures.1 in
+    line-ends t l.from _ l.state _ f c.line_after.ensures c.if-line_after-eq-AGREED.true ∙ l.invariant.1
 
-pub returns-then-end-text : goal.returns-then-end-text
-returns-then-end-text c = line-last c.args.text.now c.loop-i.i _ c.loop-i.state _ c.next_feed-end.ensures c.line_after-state.ensures c.if-end-text.true ∙ c.loop-i.invariant.1
+pub loop-size-preserved : goal.loop-size-preserved
+loop-size-preserved c =
+    let t = c.args.text.now in
+    let l = c.loop-size in
+    let f = feed-found t l.from l.invariant.0 c.in-Some.size c.in-Some.ensures.0 c.in-Some.ensures.1 in
+    (omega (arith, f.inside), line-on t l.from _ l.state _ f c.line_after.ensures c.if-line_after-eq-AGREED.false ∙ l.invariant.1)
 
-pub overflow_add-result : goal.overflow_add-result
-overflow_add-result c = omega (arith, c.next_feed-end.ensures.most)
-
-pub returns-then-state-eq-AGREED : goal.returns-then-state-eq-AGREED
-returns-then-state-eq-AGREED c = line-ends c.args.text.now c.loop-i.i _ c.loop-i.state _ c.next_feed-end.ensures c.line_after-state.ensures c.if-end-text.false c.if-state-eq-AGREED.true ∙ c.loop-i.invariant.1
-
-pub overflow_add-i : goal.overflow_add-i
-overflow_add-i c = omega (arith, c.next_feed-end.ensures.most)
-
-pub loop-i-smaller : goal.loop-i-smaller
-loop-i-smaller c = omega (arith, c.next_feed-end.ensures.most, c.next_feed-end.ensures.from)
-
-pub loop-i-preserved : goal.loop-i-preserved
-loop-i-preserved c =
-    let f = c.next_feed-end.ensures in
-    (omega (arith, f.most, c.if-end-text.false), line-on c.args.text.now c.loop-i.i _ c.loop-i.state _ f c.line_after-state.ensures c.if-end-text.false c.if-state-eq-AGREED.false ∙ c.loop-i.invariant.1)
+pub line_after-requires-2 : goal.line_after-requires-2
+line_after-requires-2 c = feed-missed c.args.text.now c.loop-size.from c.loop-size.invariant.0 c.in_default.ensures
 
 pub returns : goal.returns
-returns c = sym (scan-none c.loop-i.i c.loop-i.state _ (search rules)) ∙ c.loop-i.invariant.1
+returns c =
+    let t = c.args.text.now in
+    let l = c.loop-size in
+    line-last t l.from l.state _ l.invariant.0 (feed-missed t l.from l.invariant.0 c.in_default.ensures) c.line_after-2.ensures ∙ l.invariant.1

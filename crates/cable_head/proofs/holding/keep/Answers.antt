@@ -5,14 +5,14 @@ use native.Mathlib.Omega.{arith}
 use Rattle.cable_head.proofs.holding.keep.Goals as goal
 
 pub slice_bounds-copy-end : goal.slice_bounds-copy-end
-slice_bounds-copy-end c = omega (arith, c.least-more.ensures, length-take c.least-more.result c.args.t.now)
+slice_bounds-copy-end c = omega (arith, c.min-more.ensures, length-take c.min-more.result c.args.t.now)
 
 pub copy-requires : goal.copy-requires
-copy-requires c = omega (arith, c.len_of-len.ensures, c.least-more.ensures, length-take c.least-more.result c.args.t.now)
+copy-requires c = omega (arith, c.len_of-len.ensures, c.min-more.ensures, length-take c.min-more.result c.args.t.now)
 
 pub returns : goal.returns
 returns c =
     let a = c.args in
     let l = c.len_of-len.ensures in
-    let k = c.least-more.ensures in
+    let k = c.min-more.ensures in
     (kept-length a.head.now a.t.now c.requires _ _ l k, keep-done a.head.now a.t.now c.requires _ _ l k _ c.copy.ensures)

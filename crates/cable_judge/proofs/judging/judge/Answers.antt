@@ -1,6 +1,6 @@
--- A number that no frame has, or one that some frame may have.
+-- A number that no frame has.
 use Rattle.cable_judge.proofs.Verdicts.{judge-high}
 use Rattle.cable_judge.proofs.judging.judge.Goals as goal
 
-pub returns-then-n : goal.returns-then-n
-returns-then-n c = rw c.refused.ensures (judge-high _ _ _ _ c.if-n.true)
+pub returns-then-awaiting : goal.returns-then-awaiting
+returns-then-awaiting c = judge-high _ _ _ _ c.if-awaiting.true

@@ -1,28 +1,34 @@
 -- The digits behind the awaited frame's front, read as a number.
-use mathlib.Core.Path.{ap, ◌∙◌}
-use native.Mathlib.Omega.{arith}
+use Rattle.std.proofs.Common.{◌≡◌, ◌+◌, ◌<◌, length, ℕ, List, drop, ap, ◌∙◌, arith}
+use Rattle.std.proofs.Math.ListN.{length-take, drop_of_length-le}
+use Rattle.std.specs.List.{slice_range}
+use Rattle.lists.specs.Lists.{holds}
+use Rattle.lists.proofs.Runs.{part-rest}
 use Rattle.text.proofs.Decimals.{width-ten}
-use Rattle.cable_judge.specs.Judge.{or_none}
-use Rattle.cable_judge.proofs.Telling.{count_none, count-inside, count-part}
+use Rattle.text.proofs.DigitTurns.{span-most}
+use Rattle.text.specs.Decimal.{width}
+use Rattle.text.specs.Digits.{span}
+use Rattle.cable_compare.specs.Compare.{before_count, count_from}
+use Rattle.cable_judge.specs.Judge.{told_count}
 use Rattle.cable_judge.proofs.judging.told_count.Goals as goal
 
-pub overflow_add-at : goal.overflow_add-at
-overflow_add-at c = omega (arith, width-ten c.args.n)
+-- what stands from the count on
+rest-is : (w n : ℕ) (s r : List ℕ) → w ≡ width n → r ≡ slice_range s (w + before_count) (length s) → r ≡ drop (count_from n) s
+rest-is w n s r e f = f ∙ part-rest (w + before_count) s ∙ ap (λ k. drop (k + before_count) s) e
 
-pub returns-then-s-at : goal.returns-then-s-at
-returns-then-s-at c = count_none _ _ (rw c.width-at.ensures at c.if-s-at.true)
+pub overflow_add-width : goal.overflow_add-width
+overflow_add-width c = omega (arith, width-ten c.args.n)
 
-pub overflow_add-end : goal.overflow_add-end
-overflow_add-end c =
-    let a = c.args in
-    omega (arith, width-ten a.n, count-inside a.n _ _ a.s.now c.width-at.ensures c.span.ensures)
+pub returns-in_default : goal.returns-in_default
+unfolding told_count span holds
+returns-in_default c =
+    let h : length c.args.s.now < count_from c.args.n = omega (arith, c.in_default.ensures.lookup.0, c.width.ensures) in
+    rw (drop_of_length-le c.args.s.now {i = count_from c.args.n} (omega arith))
 
 pub slice_bounds-read_number-end : goal.slice_bounds-read_number-end
-slice_bounds-read_number-end c =
-    let a = c.args in
-    omega (arith, width-ten a.n, count-inside a.n _ _ a.s.now c.width-at.ensures c.span.ensures)
+slice_bounds-read_number-end c = omega (arith, c.span-end.ensures, span-most 10 c.in-Some.rest.now, length-take c.span-end.result c.in-Some.rest.now)
 
 pub returns : goal.returns
+unfolding told_count
 returns c =
-    let a = c.args in
-    c.or_none.ensures ∙ ap or_none c.read_number.ensures ∙ count-part a.n _ _ a.s.now c.width-at.ensures c.span.ensures
+    rw (c.unwrap_or.ensures, c.read_number.ensures, c.span-end.ensures, rest-is c.width.result c.args.n c.args.s.now c.in-Some.rest.now c.width.ensures c.in-Some.ensures.lookup.0.2)

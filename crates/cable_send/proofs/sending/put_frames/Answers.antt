@@ -1,42 +1,45 @@
 -- The frames left, written behind those that stand, give the table's text.
-use Rattle.cable_frame.proofs.FramesPut.{data-part, length-data, rest-length, rest_put, rest-none, rest_all}
-use mathlib.Core.Path.{refl, sym, ap, ◌∙◌}
-use native.Mathlib.Omega.{arith}
-use lib.ListN.{length}
+use Rattle.std.proofs.Common.{rules, ◌≡◌, length, min, sym, ap, ◌∙◌, arith}
+use Rattle.std.specs.Iterator.Adapters.{enumerate_source, enumerate_count}
+use Rattle.std.specs.Slice.Iter.{chunks_rest}
 use Rattle.lists.proofs.Runs.{over_none}
-use borrow.Author.Rules.{rules}
+use Rattle.text.specs.Decimal.{width}
+use Rattle.cable_frame.specs.Frame.{frame_size}
+use Rattle.cable_send.proofs.Cuts.{left-none, count-next, left-length, left_put}
 use Rattle.cable_send.proofs.sending.put_frames.Goals as goal
-
-pub loop-i-init : goal.loop-i-init
-loop-i-init c =
-    let e = rest_all c.args.table.now _ c.requires.1 in
-    (search rules, refl, omega (arith, ap length e), rw e)
 
 pub put_frame-at-requires : goal.put_frame-at-requires
 put_frame-at-requires c =
     let l = c.loop-i in
-    let a = c.args in
-    let d = data-part a.table.now l.i _ c.least-end.ensures (search rules) in
-    omega (arith, ap length d, length-data a.table.now l.i, l.invariant.2, rest-length a.table.now l.i a.count (search rules))
+    let v = l.invariant in
+    let s = c.in-Some.ensures.steps in
+    let r = chunks_rest (enumerate_source l.i-iterator) in
+    let n : length c.in-Some.part.now ≡ min frame_size (length r) = s.0.1.1 ∙ ap (λ k. min k (length r)) v.size in
+    omega (arith, ap width s.1, v.room, left-length (enumerate_count l.i-iterator) c.args.count r c.in-Some.part.now _ s.0.1.2 s.0.1.0 n)
 
 pub loop-i-preserved : goal.loop-i-preserved
 loop-i-preserved c =
     let l = c.loop-i in
-    let a = c.args in
-    let p = c.put_frame-at in
-    let t = a.table.now in
-    let d = data-part t l.i _ c.least-end.ensures (search rules) in
-    let n = ap length d ∙ length-data t l.i in
-    let e = rw n at p.ensures.0 in
-    let f = rw d at p.ensures.1 in (
-      search rules,
-      omega arith,
-      omega (arith, e, l.invariant.2, rest-length t l.i a.count (search rules)),
-      rw (e, f) (rest_put t l.i a.count l.at l.out (search rules) (search rules)) ∙ l.invariant.3,
-    )
+    let v = l.invariant in
+    let s = c.in-Some.ensures.steps in
+    let p = c.put_frame-at.ensures in
+    let i = enumerate_count l.i-iterator in
+    let m = c.args.count in
+    let r = chunks_rest (enumerate_source l.i-iterator) in
+    let y = chunks_rest (enumerate_source c.next.new.self) in
+    let x = c.in-Some.part.now in
+    let n : length x ≡ min frame_size (length r) = s.0.1.1 ∙ ap (λ k. min k (length r)) v.size in
+    record {
+      goes = search rules;
+      finite = search rules;
+      size = s.0.0 ∙ v.size;
+      count = omega (arith, s.2, v.count, count-next i m r x y s.0.1.2 s.0.1.0 n);
+      room = rw s.2 (omega (arith, p.0, ap width s.1, v.room, left-length i m r x y s.0.1.2 s.0.1.0 n));
+      text = rw (s.2, p.1, p.0, s.1) (left_put i m r x y s.0.1.2 s.0.1.0 n l.at l.out (omega (arith, v.room))) ∙ v.text;
+    }
 
 pub returns : goal.returns
 returns c =
     let l = c.loop-i in
-    let a = c.args in
-    sym (rw (rest-none a.table.now l.i a.count (search rules)) (over_none l.at l.out)) ∙ l.invariant.3
+    let e = left-none (enumerate_count l.i-iterator) c.args.count (chunks_rest (enumerate_source l.i-iterator)) c.in-None.ensures.steps.0.1.0 in
+    sym (rw e (over_none l.at l.out)) ∙ l.invariant.text

@@ -1,15 +1,22 @@
 -- The frames left, written behind those that stand, give the table's text.
-use Rattle.cable_frame.proofs.FramesPut.{rest_from}
-use mathlib.Core.Path.{◌≡◌}
-use Prim.Native.Nat.{◌+◌, ◌-◌, ◌≤◌}
-use lib.ListN.{length}
+use Rattle.std.proofs.Common.{◌≡◌, ◌+◌, length}
+use Rattle.std.specs.Iterator.Adapters.{enumerate_source, enumerate_count}
+use Rattle.std.specs.Slice.Iter.{chunks_rest, chunks_size}
 use Rattle.lists.specs.Lists.{over}
-use Rattle.cable_frame.specs.Frame.{sent}
+use Rattle.cable_frame.specs.Frame.{frame_count, frame_size, sent}
+use Rattle.cable_send.proofs.Cuts.{left}
 use Rattle.cable_send.proofs.sending.put_frames.Given as goal
 
 abbrev pub invariant-loop-i : goal.invariant-loop-i
 invariant-loop-i l =
-    (l.i ≤ l.count) × (length l.out ≡ length l.initial.out) × (l.at + length (rest_from l.table l.i l.count) ≡ length (sent l.table)) × (over l.at (rest_from l.table l.i l.count) l.out ≡ over 0 (sent l.table) l.initial.out)
-
-abbrev pub decreases-loop-i : goal.decreases-loop-i
-decreases-loop-i l = l.count - l.i
+    let s = enumerate_source l.i-iterator in
+    let n = enumerate_count l.i-iterator in
+    let r = chunks_rest s in
+    record {
+      goes : (goal.iterator-loop-i).can_next l.i-iterator;
+      finite : (goal.iterator-loop-i).is_finite l.i-iterator;
+      size : chunks_size s ≡ frame_size;
+      count : n + frame_count r ≡ l.count;
+      room : l.at + length (left n l.count r) ≡ length (sent l.table);
+      text : over l.at (left n l.count r) l.out ≡ over 0 (sent l.table) l.initial.out;
+    }
