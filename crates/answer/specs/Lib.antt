@@ -1,2 +1,4 @@
+pub mod Answers
 pub mod Number
+pub mod Shown
 pub mod Tally

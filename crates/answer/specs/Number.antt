@@ -4,7 +4,6 @@ use Rattle.answer.specs.declared.Overflow.{Overflow}
 use Rattle.answer.specs.declared.PackedTable.{PackedTable}
 use Rattle.answer.specs.declared.tally.Tally.{Tally}
 use Rattle.answer.specs.declared.Refusal.{Refusal}
-use Rattle.answer.specs.declared.Refusal.TheVariants as Refusal
 
 abbrev pub number : Refusal → ℕ
 number Refusal.NothingOpen = 1

@@ -2,9 +2,10 @@
 #![tactic(auto)]
 
 mod refusals;
+mod shown;
 mod tally;
 
-pub use refusals::{named_by, no_table, nowhere, number_of};
+pub use refusals::{named_by, no_table, nowhere};
 pub use tally::Tally;
 
 // A closed object, numbered from 0 in the order of closing.
@@ -37,18 +38,27 @@ pub enum Refusal {
     Hopeless,
 }
 
-// Of every call but close and pack.
+// Of every call but close and pack: what the session holds then, and why if it is refused.
+pub type Answer = Result<Tally, Refused>;
+
+// Of close.
+pub type Closing = Result<Closed, Refused>;
+
+// Of pack.
+pub type Packing = Result<Packed, Refused>;
+
+// Why a call is refused, and what the session holds.
 #[derive(Clone, Copy)]
-pub enum Answer {
-    Done(Tally),
-    Refused(Refusal, Tally),
+pub struct Refused {
+    pub why: Refusal,
+    pub tally: Tally,
 }
 
-// Of close: the closed object's id.
+// The closed object's id, and what the session holds then.
 #[derive(Clone, Copy)]
-pub enum Closing {
-    Done(ObjectId, Tally),
-    Refused(Refusal, Tally),
+pub struct Closed {
+    pub id: ObjectId,
+    pub tally: Tally,
 }
 
 // A table: its length, how many of its objects are copies, and how many it has, copies among them.
@@ -59,9 +69,9 @@ pub struct PackedTable {
     pub placed: usize,
 }
 
-// Of pack.
+// A table, and what the session holds.
 #[derive(Clone, Copy)]
-pub enum Packing {
-    Done(PackedTable, Tally),
-    Refused(Refusal, Tally),
+pub struct Packed {
+    pub table: PackedTable,
+    pub tally: Tally,
 }

@@ -2,27 +2,38 @@
 ghost use Rattle.std.specs.Prelude.{◌≡◌};
 ghost use Rattle.answer.specs.Number.{number, named, no_overflow, no_table};
 
-use crate::{ObjectId, Overflow, PackedTable, Refusal};
+use crate::{ObjectId, Overflow, PackedTable, Refusal, Refused, Tally};
 
-// A refusal's number (docs/RULES.md, section 6).
-pub fn number_of(why: Refusal) -> u64
-    ensures { result ≡ number why }
-{
-    match why {
-        Refusal::NothingOpen => 1,
-        Refusal::DepthFull => 2,
-        Refusal::BadField => 3,
-        Refusal::NotClosed => 4,
-        Refusal::EmptyObject => 5,
-        Refusal::StoreFull => 6,
-        Refusal::LinksFull => 7,
-        Refusal::ObjectsFull => 8,
-        Refusal::ObjectOpen => 9,
-        Refusal::OutputShort => 10,
-        Refusal::Overflow(_) => 11,
-        Refusal::Unsound => 12,
-        Refusal::OutOfRange => 13,
-        Refusal::Hopeless => 16,
+impl Refusal {
+    // Of a call that is refused while the session holds so much.
+    pub fn with(self, tally: Tally) -> Refused
+        ensures { result ≡ record { why = self; tally = tally } }
+    {
+        Refused { why: self, tally }
+    }
+}
+
+// Its number (docs/RULES.md, section 6).
+impl From<Refusal> for u64 {
+    ghost from_gives = { λ why n. n ≡ number why };
+
+    fn from(why: Refusal) -> u64 {
+        match why {
+            Refusal::NothingOpen => 1,
+            Refusal::DepthFull => 2,
+            Refusal::BadField => 3,
+            Refusal::NotClosed => 4,
+            Refusal::EmptyObject => 5,
+            Refusal::StoreFull => 6,
+            Refusal::LinksFull => 7,
+            Refusal::ObjectsFull => 8,
+            Refusal::ObjectOpen => 9,
+            Refusal::OutputShort => 10,
+            Refusal::Overflow(_) => 11,
+            Refusal::Unsound => 12,
+            Refusal::OutOfRange => 13,
+            Refusal::Hopeless => 16,
+        }
     }
 }
 

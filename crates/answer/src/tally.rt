@@ -29,10 +29,8 @@ impl Tally {
         ensures { result ≡ opened self }
     {
         Tally {
-            bytes: self.bytes,
-            links: self.links,
-            objects: self.objects,
             depth: self.depth + 1,
+            ..self
         }
     }
 
@@ -44,8 +42,7 @@ impl Tally {
         Tally {
             bytes: self.bytes + bytes,
             links: self.links + links,
-            objects: self.objects,
-            depth: self.depth,
+            ..self
         }
     }
 
@@ -55,14 +52,13 @@ impl Tally {
         ensures { result ≡ added self }
     {
         Tally {
-            bytes: self.bytes,
-            links: self.links,
             objects: self.objects + 1,
             depth: self.depth - 1,
+            ..self
         }
     }
 
-    // The innermost open object is dropped, and gives back its bytes and links.
+    // The innermost open object is dropped, or closed as a duplicate, and gives back its bytes and links: nothing is held twice.
     pub fn release(self, bytes: usize, links: usize) -> Self
         requires { (bytes ≤ self.bytes) × (links ≤ self.links) × (0 < self.depth) }
         ensures { result ≡ released bytes links self }
@@ -70,16 +66,8 @@ impl Tally {
         Tally {
             bytes: self.bytes - bytes,
             links: self.links - links,
-            objects: self.objects,
             depth: self.depth - 1,
+            ..self
         }
-    }
-
-    // The innermost open object is a duplicate: nothing of it is held twice.
-    pub fn discard(self, bytes: usize, links: usize) -> Self
-        requires { (bytes ≤ self.bytes) × (links ≤ self.links) × (0 < self.depth) }
-        ensures { result ≡ released bytes links self }
-    {
-        self.release(bytes, links)
     }
 }

@@ -128,7 +128,7 @@ fn batch_sound(
         return refused(Refusal::OutOfRange);
     }
     let r = run_indexed(store, records, s, calls, bytes, ids, &mut work[..n]);
-    memory::longs::clear(work, 0, n);
+    memory::clear(work, 0, n, 0);
     let ending = r.ending;
     Batched {
         ending,

@@ -1,24 +1,34 @@
 -- Links by their words: the laws that a change of the link's record touches.
 use mathlib.Core.Path.{◌≡◌, refl, ap}
-use Prim.Native.Nat.{ℕ, zero, suc, ◌+◌, ◌*◌, ◌≤◌}
+use Prim.Native.Nat.{ℕ, zero, suc, ◌+◌, ◌*◌, ◌≤◌, ◌<◌}
 use mathlib.Core.List.{List, [], ◌∷◌, ◌++◌, append_assoc}
 use native.Mathlib.Numerals.{add-one}
 use native.Mathlib.Omega.{arith}
-use lib.ListN.{length, drop, set}
+use lib.ListN.{length, set}
 use lib.Seq.{sets-eq}
 use Rattle.lists.specs.Lists.{part, over}
-use Rattle.lists.proofs.Runs.{drop-first}
 use Rattle.lists.proofs.Parts.{part-part}
 use Rattle.model_orders.specs.Object.{Link}
 use Rattle.layout.specs.Words.{link_words, links_at, link_limit, link_area, words_of, links_of, link_at}
 
-pub links_of-next : (ws : List ℕ) (i : ℕ) → i + link_words ≤ length ws → links_of (drop i ws) ≡ link_at ws i ∷ links_of (drop (i + link_words) ws)
+-- the words of one link, and those that follow
+pub links_of-next : (ws rest : List ℕ) → length ws ≡ link_words → links_of (ws ++ rest) ≡ link_at ws 0 ∷ links_of rest
 unfolding links_of
-links_of-next ws i h =
-    let a : i + 1 + 1 ≡ i + 2 = omega arith in
-    let b : i + 2 + 1 ≡ i + 3 = omega arith in
-    let c : i + 3 + 1 ≡ i + link_words = omega arith in
-    rw (drop-first i ws (omega arith), drop-first (i + 1) ws (omega arith), a, drop-first (i + 2) ws (omega arith), b, drop-first (i + 3) ws (omega arith), c)
+links_of-next [] rest h = absurd (omega arith)
+links_of-next (a ∷ []) rest h = absurd (omega arith)
+links_of-next (a ∷ b ∷ []) rest h = absurd (omega arith)
+links_of-next (a ∷ b ∷ c ∷ []) rest h = absurd (omega arith)
+links_of-next (a ∷ b ∷ c ∷ d ∷ []) rest h = refl
+links_of-next (a ∷ b ∷ c ∷ d ∷ e ∷ ws) rest h = absurd (omega arith)
+
+-- fewer words than a link has
+pub links_of-short : (ws : List ℕ) → length ws < link_words → links_of ws ≡ []
+unfolding links_of
+links_of-short [] h = refl
+links_of-short (a ∷ []) h = refl
+links_of-short (a ∷ b ∷ []) h = refl
+links_of-short (a ∷ b ∷ c ∷ []) h = refl
+links_of-short (a ∷ b ∷ c ∷ d ∷ ws) h = absurd (omega arith)
 
 pub links_of-words : (l : Link) → links_of (words_of l) ≡ l ∷ []
 unfolding links_of

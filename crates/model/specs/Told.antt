@@ -1,15 +1,10 @@
 -- docs/RULES.md, 6.3: all that a call tells. What a call does not have is 0.
-use Rattle.std.specs.Prelude.{ℕ}
+use Rattle.std.specs.Prelude.{ℕ, Ok, Err}
 use Rattle.answer.specs.Number.{number, named, beside, no_overflow}
 use Rattle.answer.specs.declared.tally.Tally.{Tally}
 use Rattle.answer.specs.declared.Overflow.{Overflow}
 use Rattle.answer.specs.declared.Refusal.{Refusal}
-use Rattle.answer.specs.declared.Answer.{Answer}
-use Rattle.answer.specs.declared.Answer.TheVariants.{Done, Refused}
-use Rattle.answer.specs.declared.Closing.{Closing}
-use Rattle.answer.specs.declared.Closing.TheVariants as Closing
-use Rattle.answer.specs.declared.Packing.{Packing}
-use Rattle.answer.specs.declared.Packing.TheVariants as Packing
+use Rattle.answer.specs.Answers.{Answer, Closing, Packing}
 
 -- the number, the tally beside it, a close's id, a pack's length, copies and placed objects, and what refusal 11 names
 pub record Told : Type 0 where
@@ -39,13 +34,13 @@ abbrev pub refused_told : Refusal → Tally → Told
 refused_told why t = record { number = number why; tally = t; id = 0; length = 0; copies = 0; placed = 0; overflow = named why }
 
 abbrev pub told_by : Answer → Told
-told_by (Done t) = done t
-told_by (Refused why t) = refused_told why t
+told_by (Ok t) = done t
+told_by (Err r) = refused_told r.why r.tally
 
 abbrev pub told_by_close : Closing → Told
-told_by_close (Closing.Done i t) = done_close i.0 t
-told_by_close (Closing.Refused why t) = refused_told why t
+told_by_close (Ok c) = done_close c.id.0 c.tally
+told_by_close (Err r) = refused_told r.why r.tally
 
 abbrev pub told_by_pack : Packing → Told
-told_by_pack (Packing.Done p t) = done_pack p.length p.copies p.placed t
-told_by_pack (Packing.Refused why t) = refused_told why t
+told_by_pack (Ok p) = done_pack p.table.length p.table.copies p.table.placed p.tally
+told_by_pack (Err r) = refused_told r.why r.tally

@@ -6,7 +6,7 @@ ghost use Rattle.layout.specs.Sound.{sound};
 ghost use Rattle.session_batch_calls.specs.Carried.{call_by, CallOk, CarriedBy};
 
 use answer::{Answer, ObjectId};
-use session_batch_words::Next;
+use session_batch_words::{Call, Next, NoCall};
 use session_drop::drop_sound;
 use session_link::link_sound;
 use session_open::open_sound;
@@ -19,12 +19,14 @@ pub fn carry(store: &mut [u8], records: &mut [u32], bytes: &[u8], n: Next) -> An
     ensures { CarriedBy (call_by bytes.now n) store.old records.old result store.new records.new }
 {
     match n {
-        Next::Open => open_sound(store, records),
-        Next::Put(k) => put_sound(store, records, &bytes[..k]),
-        Next::Link(width, id, inner) => link_sound(store, records, width, ObjectId(id), inner),
-        Next::Drop => drop_sound(store, records),
-        Next::Nothing => Answer::Done(tally_sound(store, records)),
-        Next::NoCall => Answer::Done(tally_sound(store, records)),
-        Next::Close => Answer::Done(tally_sound(store, records)),
+        Ok(Some(c)) => match c {
+            Call::Open => open_sound(store, records),
+            Call::Put(k) => put_sound(store, records, &bytes[..k]),
+            Call::Link(width, id, inner) => link_sound(store, records, width, ObjectId(id), inner),
+            Call::Drop => drop_sound(store, records),
+            Call::Close => Ok(tally_sound(store, records)),
+        },
+        Ok(None) => Ok(tally_sound(store, records)),
+        Err(NoCall) => Ok(tally_sound(store, records)),
     }
 }

@@ -1,22 +1,19 @@
 -- docs/RULES.md, section 14: one turn of a batch, on the memory that it is lent.
-use Rattle.std.specs.Prelude.{◌≡◌, true, ℕ, ◌+◌, ◌-◌, ◌^◌, ◌≤◌, ◌<◌, List, length, take, drop, set}
+use Rattle.std.specs.Prelude.{◌≡◌, true, ℕ, ◌+◌, ◌-◌, ◌^◌, ◌≤◌, ◌<◌, List, length, take, drop, set, Option, Result, Ok, Err}
 use Rattle.answer.specs.Number.{number}
-use Rattle.answer.specs.declared.Answer.{Answer}
-use Rattle.answer.specs.declared.Answer.TheVariants as Answer
-use Rattle.answer.specs.declared.Closing.{Closing}
-use Rattle.answer.specs.declared.Closing.TheVariants as Closing
+use Rattle.answer.specs.Answers.{Answer, Closing}
 use Rattle.layout.specs.Sound.{sound}
 use Rattle.steps.specs.Runs.{Stores, stores}
 use Rattle.steps.specs.Mirrored.{by_stores}
 use Rattle.session_batch.specs.Calls.{Said, said}
 use Rattle.session_batch.specs.Batch.{no_call_number, Underway, Ended, ended, turn}
 use Rattle.session_batch_words.specs.Next.{said_by, words_taken, bytes_taken, Within}
-use Rattle.session_batch_words.specs.declared.Next.{Next}
+use Rattle.session_batch_words.specs.declared.Call.{Call}
+use Rattle.session_batch_words.specs.declared.NoCall.{NoCall}
 use Rattle.session_batch_calls.specs.Carried.{call_by, CarriedBy}
 use Rattle.session_indexed.specs.Close.{Keeping, Kept}
 use Rattle.session_batch_turn.specs.declared.Progress.{Progress}
 use Rattle.session_batch_turn.specs.declared.Ending.{Ending}
-use Rattle.session_batch_turn.specs.declared.Ending.TheVariants as Ending
 use Rattle.session_batch_turn.specs.declared.Turn.{Turn}
 use Rattle.session_batch_turn.specs.declared.Turn.TheVariants.{On, Over}
 
@@ -53,7 +50,7 @@ abbrev pub next_said : List ℕ → List ℕ → List ℕ → Progress → Said
 next_said calls bytes ids p = said (length ids) (take p.told ids) (drop p.bytes bytes) (drop p.words calls)
 
 -- they say n, and it takes no more than is left
-pub record NextSays (calls bytes ids : List ℕ) (p : Progress) (n : Next) : Type 0 where
+pub record NextSays (calls bytes ids : List ℕ) (p : Progress) (n : Result (Option Call) NoCall) : Type 0 where
   pub is : next_said calls bytes ids p ≡ said_by (drop p.bytes bytes) (drop p.words calls) n
   pub within : Within (length calls - p.words) (length bytes - p.bytes) (length ids - p.told) n
 
@@ -84,29 +81,29 @@ pub record Turned (calls bytes : List ℕ) (buckets : ℕ) (l : Lent) (p : Progr
 
 -- ---- by a call's answer
 
-abbrev pub after_call : Answer → Next → Progress → Turn
-after_call (Answer.Done t) n p = On (record { words = p.words + words_taken n; bytes = p.bytes + bytes_taken n; told = p.told; calls = p.calls + 1 })
-after_call (Answer.Refused why t) n p = Over (Ending.Refused why)
+abbrev pub after_call : Answer → Result (Option Call) NoCall → Progress → Turn
+after_call (Ok t) n p = On (record { words = p.words + words_taken n; bytes = p.bytes + bytes_taken n; told = p.told; calls = p.calls + 1 })
+after_call (Err r) n p = Over (Ending.Refused r.why)
 
-pub record CallReady (b w bytes : List ℕ) (n : Next) (p : Progress) : Type 0 where
+pub record CallReady (b w bytes : List ℕ) (n : Result (Option Call) NoCall) (p : Progress) : Type 0 where
   pub is_sound : sound b w ≡ true
   pub in_bytes : p.bytes + bytes_taken n ≤ length bytes
   pub small : p.words + words_taken n < 2 ^ 64
   pub counted : p.calls < p.words + words_taken n
 
-pub record CallTurned (b w bytes : List ℕ) (n : Next) (p : Progress) (r : Turn) (b' w' : List ℕ) : Type 0 where
+pub record CallTurned (b w bytes : List ℕ) (n : Result (Option Call) NoCall) (p : Progress) (r : Turn) (b' w' : List ℕ) : Type 0 where
   pub answer : Answer
   pub carried : CarriedBy (call_by (drop p.bytes bytes) n) b w answer b' w'
   pub is : r ≡ after_call answer n p
 
 abbrev pub after_close : Closing → Progress → Turn
-after_close (Closing.Done id t) p = On (record { words = p.words + 1; bytes = p.bytes; told = p.told + 1; calls = p.calls + 1 })
-after_close (Closing.Refused why t) p = Over (Ending.Refused why)
+after_close (Ok c) p = On (record { words = p.words + 1; bytes = p.bytes; told = p.told + 1; calls = p.calls + 1 })
+after_close (Err r) p = Over (Ending.Refused r.why)
 
 -- its id behind those told
 abbrev pub ids_with : Closing → ℕ → List ℕ → List ℕ
-ids_with (Closing.Done id t) told ids = set ids told id.0
-ids_with (Closing.Refused why t) told ids = ids
+ids_with (Ok c) told ids = set ids told c.id.0
+ids_with (Err r) told ids = ids
 
 pub record CloseReady (buckets : ℕ) (l : Lent) (p : Progress) : Type 0 where
   pub keeping : Keeping l.stores.bytes l.stores.words l.index buckets

@@ -4,9 +4,9 @@
 ghost use Rattle.std.specs.Prelude.{◌≡◌};
 ghost use Rattle.session_batch_turn.specs.Turn.{Inside, lent, Ready, NextSays, end_number, CallReady, CallTurned, CloseReady, CloseTurned, Turned};
 
-use answer::{Answer, Closing, Refusal, number_of};
+use answer::{Closed, Refusal, Refused};
 use session_batch_calls::carry;
-use session_batch_words::{Next, bytes_taken, read_call, words_taken};
+use session_batch_words::{Call, Next, NoCall, bytes_taken, read_call, words_taken};
 use session_indexed::close_indexed;
 
 // How far a batch is: the words and the bytes behind it, the ids told, the calls carried out.
@@ -43,7 +43,7 @@ pub fn end_number(e: Ending) -> u64
     match e {
         Ending::Done => 0,
         Ending::NoCall => NO_CALL,
-        Ending::Refused(why) => number_of(why),
+        Ending::Refused(why) => u64::from(why),
     }
 }
 
@@ -52,10 +52,8 @@ fn next_call(calls: &[u32], bytes: &[u8], ids: &[u32], p: Progress) -> Next
     requires { Inside calls.now bytes.now ids.now p }
     ensures { NextSays calls.now bytes.now ids.now p result }
 {
-    let at = p.words;
-    let told = p.told;
     let left = bytes.len() - p.bytes;
-    read_call(&calls[at..], left, &ids[..told], ids.len())
+    read_call(&calls[p.words..], left, &ids[..p.told], ids.len())
 }
 
 // A call other than close.
@@ -63,16 +61,14 @@ fn call_turn(store: &mut [u8], records: &mut [u32], bytes: &[u8], n: Next, p: Pr
     requires { CallReady store.old records.old bytes.now n p }
     ensures { CallTurned store.old records.old bytes.now n p result store.new records.new }
 {
-    let from = p.bytes;
-    let a = carry(store, records, &bytes[from..], n);
-    match a {
-        Answer::Done(_) => Turn::On(Progress {
+    match carry(store, records, &bytes[p.bytes..], n) {
+        Ok(_) => Turn::On(Progress {
             words: p.words + words_taken(n),
-            bytes: from + bytes_taken(n),
+            bytes: p.bytes + bytes_taken(n),
             told: p.told,
             calls: p.calls + 1,
         }),
-        Answer::Refused(why, _) => Turn::Over(Ending::Refused(why)),
+        Err(Refused { why, .. }) => Turn::Over(Ending::Refused(why)),
     }
 }
 
@@ -91,7 +87,7 @@ fn close_turn(
     let at = p.told;
     let a = close_indexed(store, records, index, buckets);
     match a {
-        Closing::Done(id, _) => {
+        Ok(Closed { id, .. }) => {
             ids[at] = id.0;
             Turn::On(Progress {
                 words: p.words + 1,
@@ -100,7 +96,7 @@ fn close_turn(
                 calls: p.calls + 1,
             })
         }
-        Closing::Refused(why, _) => Turn::Over(Ending::Refused(why)),
+        Err(Refused { why, .. }) => Turn::Over(Ending::Refused(why)),
     }
 }
 
@@ -120,9 +116,11 @@ pub fn take_turn(
 {
     let n = next_call(calls, bytes, ids, p);
     match n {
-        Next::Nothing => Turn::Over(Ending::Done),
-        Next::NoCall => Turn::Over(Ending::NoCall),
-        Next::Close => close_turn(store, records, ids, index, buckets, p),
-        _ => call_turn(store, records, bytes, n, p),
+        Ok(None) => Turn::Over(Ending::Done),
+        Err(NoCall) => Turn::Over(Ending::NoCall),
+        Ok(Some(c)) => match c {
+            Call::Close => close_turn(store, records, ids, index, buckets, p),
+            _ => call_turn(store, records, bytes, n, p),
+        },
     }
 }

@@ -4,17 +4,22 @@
 ghost use Rattle.std.specs.Prelude.{◌≡◌};
 ghost use Rattle.session_batch_words.specs.Next.{words_taken, bytes_taken, Says, PutSays, LinkSays, OwnLinkSays, CloseSays};
 
-// Nothing, since there are no words; no call; or a call: a put with how many bytes it takes, a link with its width, the child's id and the inner start.
+// A call: a put with how many bytes it takes, a link with its width, the child's id and the inner start.
 #[derive(Clone, Copy)]
-pub enum Next {
-    Nothing,
-    NoCall,
+pub enum Call {
     Open,
     Put(usize),
     Link(u32, u32, u32),
     Close,
     Drop,
 }
+
+// The words are no call.
+#[derive(Clone, Copy)]
+pub struct NoCall;
+
+// The next call, or none, since there are no words.
+pub type Next = Result<Option<Call>, NoCall>;
 
 // The first word of each call.
 const OPEN: u32 = 1;
@@ -39,13 +44,12 @@ pub fn words_taken(n: Next) -> usize
     ensures { result ≡ words_taken n }
 {
     match n {
-        Next::Nothing => 0,
-        Next::NoCall => 0,
-        Next::Open => 1,
-        Next::Put(_) => PUT_LENGTH,
-        Next::Link(_, _, _) => LINK_LENGTH,
-        Next::Close => 1,
-        Next::Drop => 1,
+        Ok(Some(c)) => match c {
+            Call::Open | Call::Close | Call::Drop => 1,
+            Call::Put(_) => PUT_LENGTH,
+            Call::Link(_, _, _) => LINK_LENGTH,
+        },
+        _ => 0,
     }
 }
 
@@ -54,85 +58,73 @@ pub fn bytes_taken(n: Next) -> usize
     ensures { result ≡ bytes_taken n }
 {
     match n {
-        Next::Nothing => 0,
-        Next::NoCall => 0,
-        Next::Open => 0,
-        Next::Put(k) => k,
-        Next::Link(_, _, _) => 0,
-        Next::Close => 0,
-        Next::Drop => 0,
+        Ok(Some(c)) => match c {
+            Call::Put(k) => k,
+            _ => 0,
+        },
+        _ => 0,
     }
 }
 
-fn read_put(words: &[u32], left: usize) -> Next
+fn read_put(words: &[u32], left: usize) -> Result<Call, NoCall>
     ensures { PutSays left words.now result }
 {
     if words.len() < PUT_LENGTH {
-        return Next::NoCall;
+        return Err(NoCall);
     }
     let n = words[1] as usize;
     if left < n {
-        return Next::NoCall;
+        return Err(NoCall);
     }
-    Next::Put(n)
+    Ok(Call::Put(n))
 }
 
-fn read_link(words: &[u32]) -> Next
+fn read_link(words: &[u32]) -> Result<Call, NoCall>
     ensures { LinkSays words.now result }
 {
     if words.len() < LINK_LENGTH {
-        return Next::NoCall;
+        return Err(NoCall);
     }
-    Next::Link(words[1], words[2], words[3])
+    Ok(Call::Link(words[1], words[2], words[3]))
 }
 
-fn read_own_link(words: &[u32], ids: &[u32]) -> Next
+fn read_own_link(words: &[u32], ids: &[u32]) -> Result<Call, NoCall>
     ensures { OwnLinkSays ids.now words.now result }
 {
     if words.len() < LINK_LENGTH {
-        return Next::NoCall;
+        return Err(NoCall);
     }
     let j = words[2] as usize;
     if ids.len() <= j {
-        return Next::NoCall;
+        return Err(NoCall);
     }
-    Next::Link(words[1], ids[j], words[3])
+    Ok(Call::Link(words[1], ids[j], words[3]))
 }
 
-fn read_close(ids: &[u32], room: usize) -> Next
+fn read_close(ids: &[u32], room: usize) -> Result<Call, NoCall>
     ensures { CloseSays room ids.now result }
 {
     if room <= ids.len() {
-        return Next::NoCall;
+        return Err(NoCall);
     }
-    Next::Close
+    Ok(Call::Close)
 }
 
-// What the words that are left say, where `left` bytes are left, these ids are told, and there is room for `room` in all.
+// What the words that are left say, none where there are none, where `left` bytes are left, these ids are told, and there is room for `room` in all.
 pub fn read_call(words: &[u32], left: usize, ids: &[u32], room: usize) -> Next
     ensures { Says room ids.now left words.now result }
 {
     if words.len() == 0 {
-        return Next::Nothing;
+        return Ok(None);
     }
-    let k = words[0];
-    if k == OPEN {
-        return Next::Open;
-    }
-    if k == PUT {
-        return read_put(words, left);
-    }
-    if k == LINK {
-        return read_link(words);
-    }
-    if k == OWN_LINK {
-        return read_own_link(words, ids);
-    }
-    if k == CLOSE {
-        return read_close(ids, room);
-    }
-    if k == DROP {
-        return Next::Drop;
-    }
-    Next::NoCall
+    let call = match words[0] {
+        OPEN => Call::Open,
+        PUT => read_put(words, left)?,
+        LINK => read_link(words)?,
+        OWN_LINK => read_own_link(words, ids)?,
+        CLOSE => read_close(ids, room)?,
+        DROP => Call::Drop,
+        _ => return Err(NoCall),
+    };
+    Ok(Some(call))
 }

@@ -1,4 +1,5 @@
 -- Each way through close's code, as its definition has it.
+use Rattle.std.specs.Prelude.{Ok, Err}
 use mathlib.Core.Path.{◌≡◌, sym, ap}
 use Prim.Native.Nat.{ℕ, ◌-◌, ◌≤◌, ◌<◌}
 use mathlib.Core.List.{List}
@@ -9,7 +10,6 @@ use lib.Dec.{eqb}
 use Rattle.answer.specs.Tally.{added, released}
 use Rattle.answer.specs.declared.tally.Tally.{Tally}
 use Rattle.answer.specs.declared.Refusal.TheVariants as Refusal
-use Rattle.answer.specs.declared.Closing.TheVariants as Closing
 use Rattle.model_orders.specs.Object.{Object, any_hopeless, slots_of, hopeless_object}
 use Rattle.model.specs.Judge.{verdict}
 use Rattle.layout.specs.Words.{object_limit, closed_count, open_depth, top}
@@ -25,14 +25,14 @@ use Rattle.steps.proofs.Innermost.{twin-most, inner-is, inner-size, inner-right}
 use Rattle.steps.proofs.Held.{Held}
 
 module _ {b w : List ℕ} {s : State} {t : Tally} (h : Held b w s t) where
-  pub close-none : s.depth ≡ 0 → closing (Closing.Refused Refusal.NothingOpen t) b w ≡ close_step b w
+  pub close-none : s.depth ≡ 0 → closing (Err (record { why = Refusal.NothingOpen; tally = t })) b w ≡ close_step b w
   unfolding close_step verdict
   close-none k = rw (h.counts.is_sound, eq-eqb (open_depth w) 0 (omega arith), h.tally_is)
 
   is_open : 0 < s.depth → eqb (open_depth w) 0 ≡ false
   is_open some = ne_eqb (open_depth w) 0 (λ e. omega arith)
 
-  pub close-empty : {own : Span} → Innermost w s own → own.to ≡ own.from → closing (Closing.Refused Refusal.EmptyObject t) b w ≡ close_step b w
+  pub close-empty : {own : Span} → Innermost w s own → own.to ≡ own.from → closing (Err (record { why = Refusal.EmptyObject; tally = t })) b w ≡ close_step b w
   unfolding close_step verdict
   close-empty k e =
       let none : top w ≡ under w = rw k.is at e in
@@ -63,7 +63,7 @@ module _ {b w : List ℕ} {s : State} {t : Tally} {own : Span} (k : Filled b w s
   pub own-hopeless : any_hopeless (own.to - own.from) (slots_of (links_from w own.first own.last)) ≡ hopeless_object (innermost_in b w)
   own-hopeless = rw own-links (rw k.lies.is (ap (λ (n : ℕ). any_hopeless n (slots_of (innermost_in b w).links)) (inner-size b w opens (sound-known k.held.counts))))
 
-  pub close-hopeless : hopeless_object (innermost_in b w) ≡ true → closing (Closing.Refused Refusal.Hopeless t) b w ≡ close_step b w
+  pub close-hopeless : hopeless_object (innermost_in b w) ≡ true → closing (Err (record { why = Refusal.Hopeless; tally = t })) b w ≡ close_step b w
   unfolding close_step verdict
   close-hopeless e = let h = k.held in rw (h.counts.is_sound, is_open h k.lies.some, not_empty, e, h.tally_is)
 
@@ -77,7 +77,7 @@ module _ {b w : List ℕ} {s : State} {t : Tally} {own : Span} (r : Ready b w s 
   k = r.inner
 
   pub close-twin : i < s.closed
-      → closing (Closing.Done (record { 0 = i }) (released (own.to - own.from) (own.last - own.first) t)) (dropped_bytes b w) (dropped_words w) ≡ close_step b w
+      → closing (Ok (record { id = record { 0 = i }; tally = released (own.to - own.from) (own.last - own.first) t })) (dropped_bytes b w) (dropped_words w) ≡ close_step b w
   unfolding close_step verdict
   close-twin m =
       let h = k.held in
@@ -86,14 +86,14 @@ module _ {b w : List ℕ} {s : State} {t : Tally} {own : Span} (r : Ready b w s 
       (rw (twin, k.lies.is, h.tally_is))
 
   module _ (new : s.closed ≤ i) where
-    pub close-full : s.objects ≤ s.closed → closing (Closing.Refused Refusal.ObjectsFull t) b w ≡ close_step b w
+    pub close-full : s.objects ≤ s.closed → closing (Err (record { why = Refusal.ObjectsFull; tally = t })) b w ≡ close_step b w
     unfolding close_step verdict
     close-full m =
         let h = k.held in
         rw (h.counts.is_sound, is_open h k.lies.some, not_empty k, r.hopes, le-leb (closed_count w) (twin_in b w) (omega arith), le-leb (object_limit w) (closed_count w) (omega arith))
         (rw h.tally_is)
 
-    pub close-new : s.closed < s.objects → closing (Closing.Done (record { 0 = i }) (added t)) (sealed_bytes b w) (sealed_words w) ≡ close_step b w
+    pub close-new : s.closed < s.objects → closing (Ok (record { id = record { 0 = i }; tally = added t })) (sealed_bytes b w) (sealed_words w) ≡ close_step b w
     unfolding close_step verdict
     close-new m =
         let h = k.held in

@@ -6,7 +6,7 @@ ghost use Rattle.layout.specs.Sound.{sound};
 ghost use Rattle.layout.specs.Known.{Read};
 ghost use Rattle.steps.specs.Steps.{closing, twin_in, close_step};
 
-use answer::{Closing, ObjectId, Refusal};
+use answer::{Closed, Closing, ObjectId, Refusal};
 use layout::span::innermost;
 use layout::state::{State, read};
 use layout::words::LINKS_AT;
@@ -23,24 +23,27 @@ pub fn close_found(store: &mut [u8], records: &mut [u32], s: State, id: ObjectId
 {
     let t = tally_of(store.len(), s);
     if s.depth == 0 {
-        return Closing::Refused(Refusal::NothingOpen, t);
+        return Err(Refusal::NothingOpen.with(t));
     }
     let own = innermost(records, s);
     if own.to == own.from {
-        return Closing::Refused(Refusal::EmptyObject, t);
+        return Err(Refusal::EmptyObject.with(t));
     }
     if span_hopeless(records, LINKS_AT + s.objects * 2, own) {
-        return Closing::Refused(Refusal::Hopeless, t);
+        return Err(Refusal::Hopeless.with(t));
     }
     if (id.0 as usize) < s.closed {
         forget(store, records, s, own);
-        return Closing::Done(id, t.discard(own.to - own.from, own.last - own.first));
+        return Ok(Closed {
+            id,
+            tally: t.release(own.to - own.from, own.last - own.first),
+        });
     }
     if s.objects <= s.closed {
-        return Closing::Refused(Refusal::ObjectsFull, t);
+        return Err(Refusal::ObjectsFull.with(t));
     }
     seal(store, records, s, own);
-    Closing::Done(id, t.add())
+    Ok(Closed { id, tally: t.add() })
 }
 
 // The look for the innermost open object, where there is one.

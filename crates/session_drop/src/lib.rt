@@ -19,7 +19,7 @@ pub fn forget(store: &mut [u8], records: &mut [u32], s: State, own: Span)
     ensures bytes { store.new ≡ dropped_bytes store.old records.old }
     ensures words { records.new ≡ dropped_words records.old }
 {
-    memory::bytes::clear(store, own.from, own.to);
+    memory::clear(store, own.from, own.to, 0);
     set_word(records, OPEN_DEPTH, s.depth - 1);
 }
 
@@ -30,9 +30,9 @@ pub fn drop_sound(store: &mut [u8], records: &mut [u32]) -> Answer
     let s = read(store, records);
     let t = tally_of(store.len(), s);
     if s.depth == 0 {
-        return Answer::Refused(Refusal::NothingOpen, t);
+        return Err(Refusal::NothingOpen.with(t));
     }
     let own = innermost(records, s);
     forget(store, records, s, own);
-    Answer::Done(t.release(own.to - own.from, own.last - own.first))
+    Ok(t.release(own.to - own.from, own.last - own.first))
 }

@@ -1,6 +1,6 @@
 -- docs/RULES.md, 2.5: objects as runs of the two stores, and what the look for an equal one leans on.
-use Rattle.std.specs.Prelude.{◌≡◌, ℕ, ◌+◌, ◌-◌, ◌*◌, ◌≤◌, List, Bool, length, eqb}
-use Rattle.lists.specs.Lists.{part, same_list}
+use Rattle.std.specs.Prelude.{◌≡◌, ℕ, ◌+◌, ◌-◌, ◌*◌, ◌≤◌, List, length}
+use Rattle.lists.specs.Lists.{part}
 use Rattle.model_orders.specs.Object.{Object}
 use Rattle.layout.specs.Words.{object_limit, closed_count, store_length, links_base, link_words, links_of}
 use Rattle.layout.specs.Known.{Tested}
@@ -11,15 +11,6 @@ use Rattle.session_find.specs.declared.Runs.{Runs}
 -- of an object that lies there
 abbrev pub runs_of : ℕ → Span → Runs
 runs_of objects s = record { from = s.from; size = s.to - s.from; at = links_base + objects * 2 + s.first * link_words; words = (s.last - s.first) * link_words }
-
--- neither the sizes nor the counts of links tell the two apart
-pub record Matched (o own : Runs) : Type 0 where
-  pub sizes : o.size ≡ own.size
-  pub counts : o.words ≡ own.words
-
--- of what begins at a and of what begins at c, the numbers from index i up to index e are the same
-abbrev pub same_run : List ℕ → ℕ → ℕ → ℕ → ℕ → Bool
-same_run l a c i e = same_list eqb (part (a + i) (a + e) l) (part (c + i) (c + e) l)
 
 -- object o has these bytes and these words of links
 pub record HasRuns (b w : List ℕ) (o : Object) (s : Runs) : Type 0 where

@@ -1,16 +1,20 @@
 // The look for an equal closed object.
 #![tactic(auto)]
 
-ghost use Rattle.std.specs.Prelude.{◌≡◌, ◌+◌, ◌^◌, ◌≤◌, ◌<◌, length};
-ghost use Rattle.layout.specs.Words.{need};
+ghost use Rattle.std.specs.Prelude.{◌≡◌, ◌&&◌, ◌+◌, ◌^◌, ◌≤◌, ◌<◌, eqb, length};
+ghost use Rattle.lists.specs.Lists.{part, same_list};
+ghost use Rattle.model_orders.specs.Object.{same_object};
+ghost use Rattle.layout.specs.Words.{need, closed_count};
+ghost use Rattle.layout.specs.Decode.{closed_at};
 ghost use Rattle.layout.specs.Known.{Read, Innermost};
-ghost use Rattle.steps.specs.Steps.{twin_in};
-ghost use Rattle.session_find.specs.Runs.{runs_of, Matched, same_run, Ground};
+ghost use Rattle.steps.specs.Steps.{innermost_in, twin_in};
+ghost use Rattle.session_find.specs.Runs.{runs_of, Ground};
 
 use answer::ObjectId;
 use layout::span::{Span, closed_span};
 use layout::state::State;
 use layout::words::LINKS_AT;
+use memory_compare::equal;
 use model_orders::LINK_WORDS;
 
 // An object as runs of the two stores: its bytes, and the words of its links.
@@ -20,6 +24,22 @@ pub struct Runs {
     pub size: usize,
     pub at: usize,
     pub words: usize,
+}
+
+impl Runs {
+    pub fn bytes(self, store: &[u8]) -> &[u8]
+        requires { self.from + self.size ≤ length store.now }
+        ensures { result.now ≡ part self.from (self.from + self.size) store.now }
+    {
+        &store[self.from..self.from + self.size]
+    }
+
+    pub fn links(self, records: &[u32]) -> &[u32]
+        requires { self.at + self.words ≤ length records.now }
+        ensures { result.now ≡ part self.at (self.at + self.words) records.now }
+    {
+        &records[self.at..self.at + self.words]
+    }
 }
 
 pub fn runs_of(objects: usize, s: Span) -> Runs
@@ -34,74 +54,27 @@ pub fn runs_of(objects: usize, s: Span) -> Runs
     }
 }
 
-// How many bytes, or words, are compared without a branch.
-const RUN: usize = 256;
-
-// Where the run that begins at index `at` ends, of `all` in all.
-fn run_end(at: usize, all: usize) -> usize
-    requires { at < all }
-    ensures { (at < result) × (result ≤ all) }
+// Whether two objects are the same: by how many links they have, then by their bytes, then by the words of their links.
+pub fn same_runs(store: &[u8], records: &[u32], r: Runs, s: Runs) -> bool
+    requires { (r.from + r.size ≤ length store.now) × (r.at + r.words ≤ length records.now) × (s.from + s.size ≤ length store.now) × (s.at + s.words ≤ length records.now) }
+    ensures { result ≡ (same_list eqb (part r.from (r.from + r.size) store.now) (part s.from (s.from + s.size) store.now) && same_list eqb (part r.at (r.at + r.words) records.now) (part s.at (s.at + s.words) records.now)) }
 {
-    if all - at < RUN {
-        return all;
-    }
-    at + RUN
+    r.words == s.words
+        && equal(r.bytes(store), s.bytes(store))
+        && equal(r.links(records), s.links(records))
 }
 
-// Whether the bytes of the two from index `at` up to index `end` are the same.
-fn same_bytes(store: &[u8], o: Runs, own: Runs, at: usize, end: usize) -> bool
-    requires matched { Matched o own }
-    requires inside { (o.from + o.size ≤ length store.now) × (own.from + own.size ≤ length store.now) × (at < end) × (end ≤ own.size) }
-    ensures { result ≡ same_run store.now own.from o.from at end }
+// Whether closed object `id` equals the innermost open one, of these runs, where `objects` is the object limit.
+pub fn equals_closed(store: &[u8], records: &[u32], objects: usize, own: Runs, id: usize) -> bool
+    requires { Ground store.now records.now objects (closed_count records.now) own × (id < closed_count records.now) }
+    ensures { result ≡ same_object (innermost_in store.now records.now) (closed_at store.now records.now id) }
 {
-    memory_compare::bytes::same(store, own.from + at, o.from + at, end - at)
-}
-
-// Whether the words of their links from index `at` up to index `end` are.
-fn same_words(records: &[u32], o: Runs, own: Runs, at: usize, end: usize) -> bool
-    requires matched { Matched o own }
-    requires inside { (o.at + o.words ≤ length records.now) × (own.at + own.words ≤ length records.now) × (at < end) × (end ≤ own.words) }
-    ensures { result ≡ same_run records.now own.at o.at at end }
-{
-    memory_compare::words::same(records, own.at + at, o.at + at, end - at)
-}
-
-fn seek(store: &[u8], records: &[u32], objects: usize, closed: usize, own: Runs) -> ObjectId
-    requires { Ground store.now records.now objects closed own }
-    ensures { result.0 ≡ twin_in store.now records.now }
-{
-    let mut i = 0;
-    'next: loop {
-        if closed <= i {
-            break ObjectId(i as u32);
-        }
-        let id = i;
-        i += 1;
-        let o = runs_of(objects, closed_span(records, objects, id));
-        if o.size != own.size {
-            continue 'next;
-        }
-        if o.words != own.words {
-            continue 'next;
-        }
-        let mut j = 0;
-        while j < own.size {
-            let end = run_end(j, own.size);
-            if !same_bytes(store, o, own, j, end) {
-                continue 'next;
-            }
-            j = end;
-        }
-        let mut k = 0;
-        while k < own.words {
-            let end = run_end(k, own.words);
-            if !same_words(records, o, own, k, end) {
-                continue 'next;
-            }
-            k = end;
-        }
-        break ObjectId(id as u32);
-    }
+    same_runs(
+        store,
+        records,
+        own,
+        runs_of(objects, closed_span(records, objects, id)),
+    )
 }
 
 // The lowest id of a closed object that equals the innermost open one, which lies at `own`, or the next id.
@@ -109,5 +82,11 @@ pub fn find(store: &[u8], records: &[u32], s: State, own: Span) -> ObjectId
     requires { Read store.now records.now s × Innermost records.now s own }
     ensures { result.0 ≡ twin_in store.now records.now }
 {
-    seek(store, records, s.objects, s.closed, runs_of(s.objects, own))
+    let runs = runs_of(s.objects, own);
+    for id in 0..s.closed {
+        if equals_closed(store, records, s.objects, runs, id) {
+            return ObjectId(id as u32);
+        }
+    }
+    ObjectId(s.closed as u32)
 }

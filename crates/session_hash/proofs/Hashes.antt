@@ -5,8 +5,8 @@ use mathlib.Core.List.{List, [], ◌∷◌}
 use mathlib.Core.Bool.{true, ◌&&◌}
 use native.Mathlib.Omega.{arith}
 use borrow.Author.Tests.{eqb-true}
-use lib.ListN.{length, drop, get_or, length-drop, drop_of_length-le}
-use lib.Seq.{drop-drop, get_or-drop}
+use lib.ListN.{length, take, drop, get_or, drop_of_length-le}
+use lib.Seq.{get_or-take}
 use lib.Dec.{eqb}
 use Rattle.lists.specs.Lists.{part, same_list}
 use Rattle.lists.proofs.Runs.{drop-first}
@@ -16,7 +16,7 @@ use Rattle.model_orders.specs.Object.{Slot, Link, Object, same_slot, same_link, 
 use Rattle.layout.specs.Words.{link_words, links_of}
 use Rattle.session_find.specs.declared.Runs.{Runs}
 use Rattle.session_find.specs.Runs.{HasRuns}
-use Rattle.session_hash.specs.Hash.{mix, mixed, four, gathered, four_at, two_words, twined, hash_bytes, words_of_all, hash_by, hash_of}
+use Rattle.session_hash.specs.Hash.{mix, mixed, gathered, four_at, two_words, twined, words_of_all, hash_by, hash_of}
 
 -- ---- what is left to mix
 
@@ -37,43 +37,42 @@ gathered-short (a ∷ b ∷ []) h = refl
 gathered-short (a ∷ b ∷ c ∷ []) h = refl
 gathered-short (a ∷ b ∷ c ∷ d ∷ l) h = absurd (omega arith)
 
-module _ (h i : ℕ) (s : List ℕ) where
-  pub fours-next : i + 3 < length s
-      → mixed h (gathered (drop i s)) ≡ mixed (mix h (four (get_or s i 0) (get_or s (i + 1) 0) (get_or s (i + 2) 0) (get_or s (i + 3) 0))) (gathered (drop (i + 4) s))
+module _ (h : ℕ) (w l rest : List ℕ) where
+  pub fours-next : w ≡ take 4 l → rest ≡ drop 4 l → length rest + 4 ≡ length l → mixed h (gathered l) ≡ mixed (mix h (four_at 0 w)) (gathered rest)
   unfolding mixed gathered
-  fours-next k =
-      let a : i + 1 + 1 ≡ i + 2 = omega arith in
-      let b : i + 2 + 1 ≡ i + 3 = omega arith in
-      let c : i + 3 + 1 ≡ i + 4 = omega arith in
-      rw (drop-first i s (omega arith), drop-first (i + 1) s (omega arith), a, drop-first (i + 2) s (omega arith), b, drop-first (i + 3) s k, c)
+  fours-next a b n = rw (a, b) (go l (omega (arith, n)))
+    where
+      go : (l : List ℕ) → 4 ≤ length l → mixed h (gathered l) ≡ mixed (mix h (four_at 0 (take 4 l))) (gathered (drop 4 l))
+      go [] k = absurd (omega arith)
+      go (a ∷ []) k = absurd (omega arith)
+      go (a ∷ b ∷ []) k = absurd (omega arith)
+      go (a ∷ b ∷ c ∷ []) k = absurd (omega arith)
+      go (a ∷ b ∷ c ∷ d ∷ l) k = refl
 
-  -- fewer than four are left
-  pub fours-none : length s - i < 4 → mixed h (gathered (drop i s)) ≡ mixed h (drop i s)
-  fours-none k = ap (mixed h) (gathered-short (drop i s) (rw (length-drop i s) k))
+-- fewer than four are left
+pub fours-none : (h : ℕ) (l : List ℕ) → length l < 4 → mixed h (gathered l) ≡ mixed h l
+fours-none h l k = ap (mixed h) (gathered-short l k)
 
-  -- ---- two words at a time
+-- ---- two words at a time
 
-  -- in what is left as in the whole
-  fours : (k j : ℕ) → i + k ≡ j → four_at k (drop i s) ≡ four_at j s
-  fours k j e =
-      let at : (x : ℕ) → get_or (drop i s) (k + x) 0 ≡ get_or s (j + x) 0 = λ x. get_or-drop i s (k + x) 0 ∙ ap (λ y. get_or s y 0) (omega (arith, e)) in
-      rw (at 1, at 2, at 3, get_or-drop i s k 0 ∙ ap (λ y. get_or s y 0) e)
+-- in the front as in the whole
+fours : (k : ℕ) (l : List ℕ) → k + 4 ≤ two_words → four_at k l ≡ four_at k (take two_words l)
+fours k l h =
+    let at : (x : ℕ) → x < two_words → get_or (take two_words l) x 0 ≡ get_or l x 0 = λ x m. get_or-take two_words l x 0 m in
+    rw (at k (omega arith), at (k + 1) (omega arith), at (k + 2) (omega arith), at (k + 3) (omega arith))
 
-  module _ (g : ℕ) where
-    pub twined-next : i + 7 < length s
-        → twined ((length s - i) / two_words) h g (drop i s) ≡ twined ((length s - (i + two_words)) / two_words) (mix h (four_at i s)) (mix g (four_at (i + 4) s)) (drop (i + two_words) s)
-    unfolding twined
-    twined-next k =
-        let n : (length s - i) / two_words ≡ suc ((length s - (i + two_words)) / two_words) = omega arith in
-        rw n (ap₂ (λ x y. twined ((length s - (i + two_words)) / two_words) (mix h x) (mix g y) (drop two_words (drop i s))) (fours 0 i (omega arith)) (fours 4 (i + 4) refl) ∙ ap (twined ((length s - (i + two_words)) / two_words) (mix h (four_at i s)) (mix g (four_at (i + 4) s))) (drop-drop two_words i s))
+module _ (h g : ℕ) (l : List ℕ) where
+  pub twined-next : (w rest : List ℕ) → w ≡ take two_words l → rest ≡ drop two_words l → length rest + two_words ≡ length l
+      → twined (length l / two_words) h g l ≡ twined (length rest / two_words) (mix h (four_at 0 w)) (mix g (four_at 4 w)) rest
+  unfolding twined
+  twined-next w rest a b k =
+      let n : length l / two_words ≡ suc (length rest / two_words) = omega (arith, k) in
+      rw (n, a, b) (ap₂ (λ x y. twined (length (drop two_words l) / two_words) (mix h x) (mix g y) (drop two_words l)) (fours 0 l (omega arith)) (fours 4 l (omega arith)))
 
-    -- fewer are left
-    pub twined-none : length s - i < two_words → twined ((length s - i) / two_words) h g (drop i s) ≡ mixed (mix h (g % 2 ^ 32)) (gathered (drop i s))
-    unfolding twined
-    twined-none k = let n : (length s - i) / two_words ≡ 0 = omega arith in rw n
-
-pub twined-first : (s : List ℕ) → hash_bytes s ≡ twined ((length s - 0) / two_words) 1 1 (drop 0 s)
-twined-first s = let n : length s - 0 ≡ length s = omega arith in rw n
+  -- fewer are left
+  pub twined-none : length l < two_words → twined (length l / two_words) h g l ≡ mixed (mix h (g % 2 ^ 32)) (gathered l)
+  unfolding twined
+  twined-none k = let n : length l / two_words ≡ 0 = omega arith in rw n
 
 -- ---- an object as runs of the stores
 

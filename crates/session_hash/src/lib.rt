@@ -1,11 +1,10 @@
 // A number for the contents of an object, by which most objects that differ are told apart.
 #![tactic(auto)]
 
-ghost use Rattle.std.specs.Prelude.{◌≡◌, ◌+◌, ◌^◌, ◌≤◌, ◌<◌, length, get_or, drop};
+ghost use Rattle.std.specs.Prelude.{◌≡◌, ◌+◌, ◌^◌, ◌≤◌, ◌<◌, length};
 ghost use Rattle.lists.specs.Lists.{part};
-ghost use Rattle.session_hash.specs.Hash.{hash_limit, mix, mixed, gathered, four, hash_bytes, hash_by};
+ghost use Rattle.session_hash.specs.Hash.{hash_limit, mix, mixed, gathered, four_at, hash_bytes, hash_by};
 
-use layout::words::word;
 use session_find::Runs;
 
 pub const HASH_LIMIT: u64 = 1 << 40;
@@ -23,64 +22,52 @@ pub fn mix(h: u64, x: u64) -> u64
     (h + x) * HASH_FACTOR % HASH_LIMIT
 }
 
-fn byte(s: &[u8], i: usize) -> u64
-    requires { i < length s.now }
-    ensures { (result ≡ get_or s.now i 0) × (result < 256) }
+// Four bytes as one word.
+fn four(w: [u8; 4]) -> u64
+    ensures { (result ≡ four_at 0 w) × (result < 2 ^ 32) }
 {
-    s[i] as u64
+    u64::from(u32::from_le_bytes(w))
 }
 
-// The four bytes from i on as one word.
-fn four(s: &[u8], i: usize) -> u64
-    requires { i + 3 < length s.now }
-    ensures { (result ≡ four (get_or s.now i 0) (get_or s.now (i + 1) 0) (get_or s.now (i + 2) 0) (get_or s.now (i + 3) 0)) × (result < 2 ^ 32) }
-{
-    byte(s, i) + 256 * (byte(s, i + 1) + 256 * (byte(s, i + 2) + 256 * byte(s, i + 3)))
-}
-
-// The bytes from `at` on, one by one.
-fn mix_rest(from: u64, s: &[u8], at: usize) -> u64
-    requires { (from < hash_limit) × (at ≤ length s.now) }
-    ensures { (result ≡ mixed from (drop at s.now)) × (result < hash_limit) }
+// Bytes one by one.
+fn mix_rest(from: u64, s: &[u8]) -> u64
+    requires { from < hash_limit }
+    ensures { (result ≡ mixed from s.now) × (result < hash_limit) }
 {
     let mut h = from;
-    let mut i = at;
-    while i < s.len() {
-        h = mix(h, byte(s, i));
-        i += 1;
+    for x in s {
+        h = mix(h, u64::from(*x));
     }
     h
 }
 
-// Those from `at` on by fours, then those left over.
-fn mix_fours(from: u64, s: &[u8], at: usize) -> u64
-    requires { (from < hash_limit) × (at ≤ length s.now) }
-    ensures { (result ≡ mixed from (gathered (drop at s.now))) × (result < hash_limit) }
+// By fours, then those left over.
+fn mix_fours(from: u64, s: &[u8]) -> u64
+    requires { from < hash_limit }
+    ensures { (result ≡ mixed from (gathered s.now)) × (result < hash_limit) }
 {
-    let n = s.len();
     let mut h = from;
-    let mut i = at;
-    while 3 < n - i {
-        h = mix(h, four(s, i));
-        i += 4;
+    let mut left = s;
+    while let Some((w, rest)) = left.split_first_chunk::<4>() {
+        h = mix(h, four(*w));
+        left = rest;
     }
-    mix_rest(h, s, i)
+    mix_rest(h, left)
 }
 
 // By eights, four to each of two numbers, so that one product is made while the other is waited for.
 fn mix_bytes(s: &[u8]) -> u64
     ensures { (result ≡ hash_bytes s.now) × (result < hash_limit) }
 {
-    let n = s.len();
     let mut h = 1;
     let mut g = 1;
-    let mut i = 0;
-    while 7 < n - i {
-        h = mix(h, four(s, i));
-        g = mix(g, four(s, i + 4));
-        i += 8;
+    let mut left = s;
+    while let Some((w, rest)) = left.split_first_chunk::<8>() {
+        h = mix(h, four([w[0], w[1], w[2], w[3]]));
+        g = mix(g, four([w[4], w[5], w[6], w[7]]));
+        left = rest;
     }
-    mix_fours(mix(h, g % WORD_LIMIT), s, i)
+    mix_fours(mix(h, g % WORD_LIMIT), left)
 }
 
 fn mix_words(from: u64, s: &[u32]) -> u64
@@ -88,10 +75,8 @@ fn mix_words(from: u64, s: &[u32]) -> u64
     ensures { (result ≡ mixed from s.now) × (result < hash_limit) }
 {
     let mut h = from;
-    let mut i = 0;
-    while i < s.len() {
-        h = mix(h, word(s, i) as u64);
-        i += 1;
+    for x in s {
+        h = mix(h, u64::from(*x));
     }
     h
 }
@@ -101,9 +86,5 @@ pub fn hash_of(store: &[u8], records: &[u32], r: Runs) -> u64
     requires { (r.from + r.size ≤ length store.now) × (r.at + r.words ≤ length records.now) }
     ensures { result ≡ hash_by (part r.from (r.from + r.size) store.now) (part r.at (r.at + r.words) records.now) }
 {
-    let from = r.from;
-    let to = from + r.size;
-    let at = r.at;
-    let end = at + r.words;
-    mix_words(mix_bytes(&store[from..to]), &records[at..end])
+    mix_words(mix_bytes(r.bytes(store)), r.links(records))
 }

@@ -1,14 +1,8 @@
 -- Objects where they lie: their runs and their hashes.
 use mathlib.Core.Path.{◌≡◌, refl, sym, ap, ◌∙◌}
-use Prim.Native.Nat.{ℕ, ◌+◌, ◌≤◌, ◌<◌}
+use Prim.Native.Nat.{ℕ, ◌<◌}
 use mathlib.Core.List.{List}
-use mathlib.Core.Bool.{true}
 use native.Mathlib.Omega.{arith}
-use lib.ListN.{length}
-use lib.Dec.{eqb}
-use Rattle.lists.specs.Lists.{part, same_list}
-use Rattle.lists.proofs.Alike.{length_run}
-use Rattle.lists.proofs.Tests.{same_none}
 use Rattle.layout.specs.Words.{open_depth}
 use Rattle.layout.specs.Decode.{object_in}
 use Rattle.layout.specs.Known.{Read, Innermost}
@@ -40,8 +34,3 @@ pub hash-inner : {b w : List ℕ} {s : State} {own : Span} {h : ℕ} → Read b 
 hash-inner {b} {w} r k e =
     let some : 0 < open_depth w = omega (arith, r.depth_is, k.some) in
     e ∙ ap (λ (s : Span). hash_of (object_in b w s)) k.is ∙ ap hash_of (sym (inner-is b w some))
-
--- no number of both
-pub same-empty : (l : List ℕ) (a c n : ℕ) → a + n ≤ length l → c + n ≤ length l → n ≡ 0 → true ≡ same_list eqb (part a (a + n) l) (part c (c + n) l)
-same-empty l a c n h k e =
-    sym (same_none eqb 0 (part a (a + n) l) (part c (c + n) l) (omega (arith, length_run a n l h)) (omega (arith, length_run c n l k)))

@@ -9,12 +9,11 @@ ghost use Rattle.session_hash.specs.Hash.{hash_of};
 ghost use Rattle.session_chains.specs.Index.{index_need, Indexed};
 ghost use Rattle.session_index.specs.Walk.{Laid, Compared, Asked};
 
-use crate::same::same_runs;
 use answer::ObjectId;
 use layout::span::{Span, closed_span};
 use layout::state::State;
 use session_chains::{ENTRY_WORDS, add, bucket_of};
-use session_find::{Runs, runs_of};
+use session_find::{Runs, equals_closed, runs_of};
 use session_hash::hash_of;
 
 // The hash of the object that lies at s, where `objects` is the object limit.
@@ -30,9 +29,8 @@ pub fn make(store: &[u8], records: &[u32], s: State, index: &mut [u64], buckets:
     requires { Read store.now records.now s × (0 < buckets) × (index_need buckets s.objects ≤ length index.old) }
     ensures { Indexed (closed_to store.now records.now (closed_count records.now)) buckets index.new }
 {
-    memory::longs::clear(index, 0, buckets * ENTRY_WORDS);
-    let mut i = 0;
-    while i < s.closed {
+    memory::clear(index, 0, buckets * ENTRY_WORDS, 0);
+    for i in 0..s.closed {
         let h = hash_at(
             store,
             records,
@@ -40,7 +38,6 @@ pub fn make(store: &[u8], records: &[u32], s: State, index: &mut [u64], buckets:
             closed_span(records, s.objects, i),
         );
         add(index, buckets, h, i);
-        i += 1;
     }
 }
 
@@ -49,15 +46,7 @@ fn equals(store: &[u8], records: &[u32], s: State, own: Runs, id: usize, g: u64,
     requires { Compared store.now records.now s own id g h }
     ensures { result ≡ same_object (innermost_in store.now records.now) (closed_at store.now records.now id) }
 {
-    if g != h {
-        return false;
-    }
-    same_runs(
-        store,
-        records,
-        own,
-        runs_of(s.objects, closed_span(records, s.objects, id)),
-    )
+    g == h && equals_closed(store, records, s.objects, own, id)
 }
 
 // The lowest closed id whose object equals the innermost open one, which lies at `own` and has hash h, or the next id.

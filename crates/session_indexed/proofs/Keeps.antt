@@ -8,7 +8,7 @@ use borrow.Author.Tests.{eq-eqb}
 use lib.ListN.{length}
 use lib.Dec.{ltb}
 use Rattle.lists.specs.Lists.{pick}
-use Rattle.answer.specs.declared.Closing.{Closing}
+use Rattle.answer.specs.Answers.{Closing}
 use Rattle.model.specs.Judge.{verdict}
 use Rattle.layout.specs.Words.{object_limit, closed_count, open_depth}
 use Rattle.layout.specs.Decode.{closed_to}

@@ -1,6 +1,6 @@
 -- docs/RULES.md, 2.5: the index of a session's closed objects, before and after a close.
 use Rattle.std.specs.Prelude.{◌≡◌, true, ℕ, ◌≤◌, ◌<◌, List, length}
-use Rattle.answer.specs.declared.Closing.{Closing}
+use Rattle.answer.specs.Answers.{Closing}
 use Rattle.layout.specs.Words.{closed_count_at, object_limit, closed_count}
 use Rattle.layout.specs.Decode.{closed_to}
 use Rattle.layout.specs.Sound.{sound}

@@ -1,4 +1,5 @@
 -- What is judged of the link that code has made is judged of the one asked for.
+use Rattle.std.specs.Prelude.{Ok}
 use mathlib.Core.Path.{◌≡◌, ap, ◌∙◌}
 use Prim.Native.Nat.{ℕ, ◌≤◌}
 use mathlib.Core.List.{List}
@@ -6,7 +7,6 @@ use mathlib.Core.Bool.{Bool, true}
 use native.Mathlib.Omega.{arith}
 use Rattle.answer.specs.Tally.{grown}
 use Rattle.answer.specs.declared.tally.Tally.{Tally}
-use Rattle.answer.specs.declared.Answer.TheVariants.{Done}
 use Rattle.model_orders.specs.Object.{Link, widest, slot_ok}
 use Rattle.model_orders.proofs.Slots.{width-most, slot-wide}
 use Rattle.layout.specs.declared.link.Link as read
@@ -21,5 +21,5 @@ module _ {width id inner : ℕ} {w : List ℕ} {l : read.Link} (m : Made width i
   pub made-narrow : slot_ok (made_link width id inner w).slot ≡ true → l.width ≤ widest
   made-narrow e = omega (arith, m.width_is, width-most width (slot-wide (made_link width id inner w).slot e))
 
-  pub made-left : (b : List ℕ) (t : Tally) → outcome (Done (grown l.width 1 t)) b (link_words_of (link_in l) w) ≡ outcome (Done (grown width 1 t)) b (link_words_of (made_link width id inner w) w)
-  made-left b t = λ i. outcome (Done (grown (m.width_is i) 1 t)) b (link_words_of (m.is i) w)
+  pub made-left : (b : List ℕ) (t : Tally) → outcome (Ok (grown l.width 1 t)) b (link_words_of (link_in l) w) ≡ outcome (Ok (grown width 1 t)) b (link_words_of (made_link width id inner w) w)
+  made-left b t = λ i. outcome (Ok (grown (m.width_is i) 1 t)) b (link_words_of (m.is i) w)

@@ -55,22 +55,22 @@ pub fn link_sound(store: &[u8], records: &mut [u32], width: u32, id: ObjectId, i
     let s = read(store, records);
     let t = tally_of(store.len(), s);
     if s.depth == 0 {
-        return Answer::Refused(Refusal::NothingOpen, t);
+        return Err(Refusal::NothingOpen.with(t));
     }
     let l = made_link(records, s, width, id, inner);
     let k = l.width;
     if !slot_ok(l) {
-        return Answer::Refused(Refusal::BadField, t);
+        return Err(Refusal::BadField.with(t));
     }
     if t.objects <= l.child {
-        return Answer::Refused(Refusal::NotClosed, t);
+        return Err(Refusal::NotClosed.with(t));
     }
     if s.links <= t.links {
-        return Answer::Refused(Refusal::LinksFull, t);
+        return Err(Refusal::LinksFull.with(t));
     }
     if store.len() - t.bytes < k {
-        return Answer::Refused(Refusal::StoreFull, t);
+        return Err(Refusal::StoreFull.with(t));
     }
     append_link(records, s, l);
-    Answer::Done(t.grow(k, 1))
+    Ok(t.grow(k, 1))
 }

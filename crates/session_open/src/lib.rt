@@ -19,10 +19,10 @@ pub fn open_sound(store: &[u8], records: &mut [u32]) -> Answer
     let t = tally_of(store.len(), s);
     let d = s.depth;
     if MOST_OPEN <= d {
-        return Answer::Refused(Refusal::DepthFull, t);
+        return Err(Refusal::DepthFull.with(t));
     }
     set_word(records, ENDS_AT + d + 1, s.top);
     set_word(records, LINK_ENDS_AT + d + 1, s.link_top);
     set_word(records, OPEN_DEPTH, d + 1);
-    Answer::Done(t.open())
+    Ok(t.open())
 }

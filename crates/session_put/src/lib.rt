@@ -18,13 +18,13 @@ pub fn put_sound(store: &mut [u8], records: &mut [u32], bytes: &[u8]) -> Answer
     let t = tally_of(store.len(), s);
     let d = s.depth;
     if d == 0 {
-        return Answer::Refused(Refusal::NothingOpen, t);
+        return Err(Refusal::NothingOpen.with(t));
     }
     if store.len() - t.bytes < bytes.len() {
-        return Answer::Refused(Refusal::StoreFull, t);
+        return Err(Refusal::StoreFull.with(t));
     }
     let top = s.top;
     memory_copy::copy(store, top, bytes);
     set_word(records, ENDS_AT + d, top + bytes.len());
-    Answer::Done(t.grow(bytes.len(), 0))
+    Ok(t.grow(bytes.len(), 0))
 }

@@ -1,7 +1,7 @@
 // The innermost open object added to the closed ones.
 #![tactic(auto)]
 
-ghost use Rattle.std.specs.Prelude.{◌≡◌, true, ◌-◌, ◌≤◌, ◌<◌, min, length, replicate};
+ghost use Rattle.std.specs.Prelude.{◌≡◌, true, ◌-◌, ◌≤◌, ◌<◌, length, replicate};
 ghost use Rattle.lists.specs.Lists.{part, over, zeros};
 ghost use Rattle.layout.specs.Known.{Read, Innermost};
 ghost use Rattle.steps.specs.Steps.{sealed_bytes, sealed_words};
@@ -11,15 +11,6 @@ use layout::state::State;
 use layout::words::{BEGINS_AT, CLOSED_COUNT, LINK_BEGINS_AT, LINKS_AT, OPEN_DEPTH, set_word};
 use model_orders::LINK_WORDS;
 
-fn lesser(a: usize, b: usize) -> usize
-    ensures { result ≡ min a b }
-{
-    if a < b {
-        return a;
-    }
-    b
-}
-
 // The bytes from `from` up to `top` moved up to end at `low`, zeros below them. Up to `low` zeros stand already: only what the bytes left is cleared.
 fn seal_bytes(store: &mut [u8], from: usize, top: usize, low: usize)
     requires { (from ≤ top) × (top ≤ low) × (low ≤ length store.old) × (zeros (part top low store.old) ≡ true) }
@@ -27,8 +18,8 @@ fn seal_bytes(store: &mut [u8], from: usize, top: usize, low: usize)
 {
     let n = top - from;
     let to = low - n;
-    memory::bytes::move_up(store, from, to, n);
-    memory::bytes::clear(store, from, lesser(top, to));
+    memory::move_up(store, from, to, n);
+    memory::clear(store, from, top.min(to), 0);
 }
 
 // Its links' records moved up, one entry more in both tables of closed objects, and the counts.
@@ -42,7 +33,7 @@ fn seal_words(records: &mut [u32], s: State, own: Span)
     let links = own.last - own.first;
     let link_low = s.link_low - links;
     let base = LINKS_AT + p * 2;
-    memory::words::move_up(
+    memory::move_up(
         records,
         base + own.first * LINK_WORDS,
         base + link_low * LINK_WORDS,

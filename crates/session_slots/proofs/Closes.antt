@@ -8,7 +8,7 @@ use borrow.Author.Tests.{eq-eqb, lt-ltb, le-ltb, ltb-false}
 use lib.ListN.{length, length-append}
 use lib.Dec.{ltb}
 use Rattle.lists.specs.Lists.{pick}
-use Rattle.answer.specs.declared.Closing.{Closing}
+use Rattle.answer.specs.Answers.{Closing}
 use Rattle.model_orders.specs.Object.{Object, no_object, size_of, with_bytes, new_slot, with_link, hopeless_object}
 use Rattle.model.specs.Judge.{Limits, Verdict, accepted, refused, verdict, judge_open, judge_put, judge_link, judge_close, judge_drop, judge_tally}
 use Rattle.model.specs.Told.{Told, done_close}

@@ -7,7 +7,7 @@ use native.Mathlib.Omega.{arith}
 use lib.ListN.{length}
 use lib.Dec.{ltb}
 use Rattle.lists.specs.Lists.{pick}
-use Rattle.answer.specs.declared.Closing.{Closing}
+use Rattle.answer.specs.Answers.{Closing}
 use Rattle.layout.specs.Words.{closed_count, open_depth}
 use Rattle.layout.specs.Decode.{closed_to}
 use Rattle.layout.specs.Sound.{sound}

@@ -6,11 +6,14 @@ use mathlib.Core.Bool.{Bool, true, false, false≢true}
 use native.Mathlib.Decide.{ℕ_discrete, dec_le}
 use native.Mathlib.Nat.{add-zero, mod-lt}
 use native.Mathlib.Omega.{arith}
-use borrow.Author.Tests.{eq-eqb, ne_eqb, eqb-true}
+use borrow.Author.Tests.{eq-eqb, ne_eqb, eqb-true, lt-ltb, le-ltb}
 use lib.ListN.{length, get_or, set, length-set, length-append, get_or-append}
 use lib.Seq.{get_or-set_same, get_or-set_other}
 use lib.Dec.{eqb}
-use Rattle.lists.specs.Lists.{pick, first_that}
+use Rattle.std.specs.Prelude.{Option, Some, None}
+use Rattle.std.specs.List.{position_or_len, position}
+use Rattle.lists.specs.Lists.{pick, part, first_that}
+use Rattle.lists.proofs.Runs.{part-first, length_part}
 use Rattle.lists.proofs.Elements.{at_snoc, first-none, first_passes}
 use Rattle.lists.proofs.Frames.{first-most}
 use Rattle.model_orders.specs.Object.{Object, no_object, object_at, same_object}
@@ -31,17 +34,56 @@ module _ (at id : ℕ) (m : List ℕ) where
   added-taken zero h d = absurd (omega arith)
   added-taken (suc n) h d = let e : suc n - 1 ≡ n = omega arith in rw (ne_eqb (get_or m at 0) 0 d, e)
 
-  pub added_none : (n : ℕ) → n ≤ 0 → added n at id m ≡ m
-  unfolding added
-  added_none zero h = refl
-  added_none (suc n) h = absurd (omega arith)
+-- the first free one of the n slots is at this place among them
+abbrev free : ℕ → Bool
+free x = eqb x 0
 
--- the same e slots further on
-pub added_next : (n at id e : ℕ) (m : List ℕ) → e < n → (get_or m (at + e) 0 ≡ 0 → ⊥) → added (n - e) (at + e) id m ≡ added (n - (e + 1)) (at + (e + 1)) id m
-added_next n at id e m h d =
-    let p : n - e - 1 ≡ n - (e + 1) = omega arith in
-    let q : at + e + 1 ≡ at + (e + 1) = omega arith in
-    rw (p, q) at (added-taken (at + e) id m (n - e) (omega arith) d)
+abbrev first-free : ℕ → ℕ → List ℕ → ℕ
+first-free n at m = position_or_len free (part at (at + n) m)
+
+module _ (id : ℕ) (m : List ℕ) where
+  added-there : (n at : ℕ) → at + n ≤ length m → (first-free n at m < n → added n at id m ≡ set m (at + first-free n at m) (id + 1)) × (n ≤ first-free n at m → added n at id m ≡ m)
+  unfolding added
+  added-there zero at h = (λ k. absurd (omega arith), λ k. refl)
+  added-there (suc n) at h =
+      let p : at + suc n ≡ at + 1 + n = omega arith in
+      let q : at < at + 1 + n = omega arith in
+      let l = part (at + 1) (at + 1 + n) m in
+      rw (p, part-first at (at + 1 + n) m q (omega arith)) (go (ℕ_discrete (get_or m at 0) 0) (added-there n (at + 1) (omega arith)))
+    where
+      go : Dec (get_or m at 0 ≡ 0) → (first-free n (at + 1) m < n → added n (at + 1) id m ≡ set m (at + 1 + first-free n (at + 1) m) (id + 1)) × (n ≤ first-free n (at + 1) m → added n (at + 1) id m ≡ m)
+          → (position_or_len free (get_or m at 0 ∷ part (at + 1) (at + 1 + n) m) < suc n → added (suc n) at id m ≡ set m (at + position_or_len free (get_or m at 0 ∷ part (at + 1) (at + 1 + n) m)) (id + 1))
+          × (suc n ≤ position_or_len free (get_or m at 0 ∷ part (at + 1) (at + 1 + n) m) → added (suc n) at id m ≡ m)
+      go (yes e) k = rw (eq-eqb (get_or m at 0) 0 e) (λ b. ap (λ (x : ℕ). set m x (id + 1)) (sym (add-zero at)), λ b. absurd (omega arith))
+      go (no d) k = rw (ne_eqb (get_or m at 0) 0 d) (λ b. k.0 (omega arith) ∙ ap (λ (x : ℕ). set m x (id + 1)) (omega arith), λ b. k.1 (omega arith))
+
+  -- as `position` answers
+  module _ (n at : ℕ) (h : at + n ≤ length m) {r : Option ℕ} (found : r ≡ position free (part at (at + n) m)) where
+    whole : length (part at (at + n) m) ≡ n
+    whole = length_part at (at + n) m h ∙ omega arith
+
+    first-some : first-free n at m < n → r ≡ Some (first-free n at m)
+    first-some k = found ∙ rw (lt-ltb (first-free n at m) (length (part at (at + n) m)) (omega (arith, whole)))
+
+    first-no : n ≤ first-free n at m → r ≡ None
+    first-no k = found ∙ rw (le-ltb (first-free n at m) (length (part at (at + n) m)) (omega (arith, whole)))
+
+    pub added-found : {e : ℕ} → r ≡ Some e → added n at id m ≡ set m (at + e) (id + 1)
+    added-found {e} s = go (dec_le n (first-free n at m))
+      where
+        go : Dec (n ≤ first-free n at m) → added n at id m ≡ set m (at + e) (id + 1)
+        go (yes k) = let a = first-no k in cc
+        go (no k) =
+            let a = first-some (omega arith) in
+            let b : first-free n at m ≡ e = cc in
+            (added-there n at h).0 (omega arith) ∙ ap (λ (x : ℕ). set m (at + x) (id + 1)) b
+
+    pub added-full : r ≡ None → added n at id m ≡ m
+    added-full s = go (dec_le n (first-free n at m))
+      where
+        go : Dec (n ≤ first-free n at m) → added n at id m ≡ m
+        go (yes k) = (added-there n at h).1 k
+        go (no k) = let a = first-some (omega arith) in cc
 
 module _ (id : ℕ) (m : List ℕ) where
   length-added : (n at : ℕ) → length (added n at id m) ≡ length m

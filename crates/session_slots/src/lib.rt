@@ -42,13 +42,8 @@ fn add(table: &mut [u16], h: u64, id: usize)
     ensures { table.new ≡ added probes (slot_from h) id table.old }
 {
     let at = slot_of(h);
-    let mut e = 0;
-    while e < PROBES {
-        if table[at + e] == 0 {
-            table[at + e] = (id + 1) as u16;
-            return;
-        }
-        e += 1;
+    if let Some(e) = table[at..at + PROBES].iter().position(|x| *x == 0) {
+        table[at + e] = (id + 1) as u16;
     }
 }
 

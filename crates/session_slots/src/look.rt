@@ -9,25 +9,16 @@ ghost use Rattle.session_slots.specs.Close.{Asked};
 
 use crate::{PROBES, slot_of};
 use answer::ObjectId;
-use layout::span::{Span, closed_span};
+use layout::span::Span;
 use layout::state::State;
-use session_find::{Runs, find, runs_of};
-use session_index::same::same_runs;
+use session_find::{Runs, equals_closed, find, runs_of};
 
 // Whether a slot with x in it holds a closed id whose object equals the innermost open one, of these runs.
 fn holds_equal(store: &[u8], records: &[u32], s: State, own: Runs, x: usize) -> bool
     requires { Ground store.now records.now s.objects s.closed own × (0 < x) }
     ensures { result ≡ (leb x (closed_count records.now) && same_object (innermost_in store.now records.now) (closed_at store.now records.now (x - 1))) }
 {
-    if s.closed < x {
-        return false;
-    }
-    same_runs(
-        store,
-        records,
-        own,
-        runs_of(s.objects, closed_span(records, s.objects, x - 1)),
-    )
+    x <= s.closed && equals_closed(store, records, s.objects, own, x - 1)
 }
 
 // The lowest closed id whose object equals the innermost open one, which lies at `own` and has hash h, or the next id.
@@ -44,16 +35,14 @@ pub fn find_slotted(
 {
     let runs = runs_of(s.objects, own);
     let at = slot_of(h);
-    let mut e = 0;
-    while e < PROBES {
-        let x = table[at + e] as usize;
+    for slot in &table[at..at + PROBES] {
+        let x = usize::from(*slot);
         if x == 0 {
             return ObjectId(s.closed as u32);
         }
         if holds_equal(store, records, s, runs, x) {
             return ObjectId((x - 1) as u32);
         }
-        e += 1;
     }
     find(store, records, s, own)
 }

@@ -17,7 +17,7 @@ fn start_words(records: &mut [u32], objects: u32, links: u32, bytes: usize)
     ensures { records.new ≡ start_words (record { objects = objects; links = links; bytes = bytes }) records.old }
 {
     let end = need(objects, links);
-    memory::words::clear(records, 0, end);
+    memory::clear(records, 0, end, 0);
     let p = objects as usize;
     set_word(records, OBJECT_LIMIT, p);
     set_word(records, BEGINS_AT, bytes);
@@ -36,9 +36,9 @@ pub fn start(store: &mut [u8], records: &mut [u32], objects: u32, links: u32) ->
         & (n <= MOST_BYTES)
         & (need(objects, links) <= records.len());
     if !fits {
-        return Answer::Refused(Refusal::OutOfRange, Tally::none());
+        return Err(Refusal::OutOfRange.with(Tally::none()));
     }
-    memory::bytes::clear(store, 0, n);
+    memory::clear(store, 0, n, 0);
     start_words(records, objects, links, n);
-    Answer::Done(Tally::none())
+    Ok(Tally::none())
 }

@@ -1,12 +1,12 @@
 -- The look for a field that no order can fill: an object of right slots that is small has none, and else the links are looked at one by one.
 use mathlib.Core.Path.{◌≡◌, refl, sym, ◌∙◌}
 use Prim.Native.Nat.{ℕ, ◌+◌, ◌-◌, ◌≤◌, ◌<◌}
-use mathlib.Core.List.{List, [], ◌∷◌}
+use mathlib.Core.List.{List, [], ◌∷◌, ◌++◌}
 use mathlib.Core.Bool.{Bool, true, false, not, ◌&&◌, ◌||◌}
 use native.Mathlib.Omega.{arith}
 use native.Mathlib.Decide.{dec_le}
 use borrow.Author.Tests.{le-leb, lt-leb}
-use lib.ListN.{length, drop, drop_of_length-le}
+use lib.ListN.{length}
 use lib.Dec.{leb}
 use Rattle.lists.proofs.Same.{and_left, and_right}
 use Rattle.big_endian.specs.BigEndian.{capacity}
@@ -15,7 +15,7 @@ use Rattle.model_orders.specs.Object.{Slot, Object, narrowest, slot_ok, hopeless
 use Rattle.model_orders.proofs.Slots.{slot-wide}
 use Rattle.layout.specs.Words.{link_words, links_of, link_at}
 use Rattle.layout.specs.Fields.{object_ok, closed_ok, slots_ok}
-use Rattle.layout.proofs.Links.{links_of-next}
+use Rattle.layout.proofs.Links.{links_of-next, links_of-short}
 use Rattle.sound_object.proofs.Ends.{width-least}
 
 -- the test as the code makes it, by a sum: a width holds one number at the least
@@ -38,28 +38,28 @@ small-hopes n h (s ∷ ss) k =
     let here : hopeless n s ≡ false = lt-leb (capacity s.width) (n - s.inner) (omega (arith, capacity-rises narrowest s.width least)) in
     rw here (small-hopes n h ss (and_right (slot_ok s) (slots_ok ss) k))
 
--- ---- by the links' words, from index i on
+-- ---- by the words of the first link and those that follow
 
-module _ (ws : List ℕ) (i : ℕ) where
-  pub hopeless-next : i + link_words ≤ length ws → (n : ℕ)
-      → any_hopeless n (slots_of (links_of (drop i ws))) ≡ (hopeless n (link_at ws i).slot || any_hopeless n (slots_of (links_of (drop (i + link_words) ws))))
+module _ (ws : List ℕ) where
+  module _ (rest : List ℕ) (h : length ws ≡ link_words) where
+    pub hopeless-next : (n : ℕ) → any_hopeless n (slots_of (links_of (ws ++ rest))) ≡ (hopeless n (link_at ws 0).slot || any_hopeless n (slots_of (links_of rest)))
+    unfolding any_hopeless
+    hopeless-next n = rw (links_of-next ws rest h)
+
+    module _ (k : slots_ok (slots_of (links_of (ws ++ rest))) ≡ true) where
+      both : (slot_ok (link_at ws 0).slot && slots_ok (slots_of (links_of rest))) ≡ true
+      unfolding slots_ok
+      both = rw (links_of-next ws rest h) at k
+
+      pub slot-first : slot_ok (link_at ws 0).slot ≡ true
+      slot-first = and_left _ (slots_ok (slots_of (links_of rest))) both
+
+      pub slots-rest : slots_ok (slots_of (links_of rest)) ≡ true
+      slots-rest = and_right (slot_ok (link_at ws 0).slot) _ both
+
+  pub hopeless-none : length ws < link_words → (n : ℕ) → any_hopeless n (slots_of (links_of ws)) ≡ false
   unfolding any_hopeless
-  hopeless-next h n = rw (links_of-next ws i h)
-
-  pub hopeless-none : length ws ≤ i → (n : ℕ) → any_hopeless n (slots_of (links_of (drop i ws))) ≡ false
-  unfolding any_hopeless links_of
-  hopeless-none h n = rw (drop_of_length-le ws {i = i} h)
-
-  module _ (h : i + link_words ≤ length ws) (k : slots_ok (slots_of (links_of (drop i ws))) ≡ true) where
-    both : (slot_ok (link_at ws i).slot && slots_ok (slots_of (links_of (drop (i + link_words) ws)))) ≡ true
-    unfolding slots_ok
-    both = rw (links_of-next ws i h) at k
-
-    pub slot-first : slot_ok (link_at ws i).slot ≡ true
-    slot-first = and_left _ (slots_ok (slots_of (links_of (drop (i + link_words) ws)))) both
-
-    pub slots-rest : slots_ok (slots_of (links_of (drop (i + link_words) ws))) ≡ true
-    slots-rest = and_right (slot_ok (link_at ws i).slot) _ both
+  hopeless-none h n = rw (links_of-short ws h)
 
 -- ---- a closed object
 

@@ -1,7 +1,7 @@
 // Fields that no order can fill: the object's own bytes are already too many between a field's inner start and its child.
-ghost use Rattle.std.specs.Prelude.{◌≡◌, true, ◌-◌, ◌*◌, length};
+ghost use Rattle.std.specs.Prelude.{◌≡◌, true, ◌-◌};
 ghost use Rattle.model_orders.specs.Object.{slot_ok, hopeless, any_hopeless, slots_of};
-ghost use Rattle.layout.specs.Words.{link_words, links_of, links_at, store_length};
+ghost use Rattle.layout.specs.Words.{links_of, links_at, store_length};
 ghost use Rattle.layout.specs.Decode.{links_from};
 ghost use Rattle.layout.specs.Fields.{slots_ok};
 ghost use Rattle.layout.specs.Links.{link_in, InWords};
@@ -22,22 +22,18 @@ fn field_hopeless(l: Link, n: u64) -> bool
 }
 
 // One of the fields, by their links' words, in an object of `size` bytes. One smaller than what the narrowest field holds has none: its links are not looked at.
-fn any_hopeless(links: &[u32], count: usize, size: usize) -> bool
-    requires { (length links.now ≡ count * link_words) × (slots_ok (slots_of (links_of links.now)) ≡ true) }
+fn any_hopeless(links: &[u32], size: usize) -> bool
+    requires { slots_ok (slots_of (links_of links.now)) ≡ true }
     ensures { result ≡ any_hopeless size (slots_of (links_of links.now)) }
 {
     let n = size as u64;
     if n < capacity(NARROWEST) {
         return false;
     }
-    let mut i = 0;
-    let mut left = count;
-    while 0 < left {
-        if field_hopeless(link_at(links, i), n) {
+    for words in links.chunks_exact(LINK_WORDS) {
+        if field_hopeless(link_at(words, 0), n) {
             return true;
         }
-        i += LINK_WORDS;
-        left -= 1;
     }
     false
 }
@@ -47,9 +43,7 @@ pub fn span_hopeless(records: &[u32], base: usize, s: Span) -> bool
     requires { (base ≡ links_at records.now) × Head (store_length records.now) records.now × Within records.now s × (slots_ok (slots_of (links_from records.now s.first s.last)) ≡ true) }
     ensures { result ≡ any_hopeless (s.to - s.from) (slots_of (links_from records.now s.first s.last)) }
 {
-    let first = s.first;
-    let last = s.last;
-    let begin = base + first * LINK_WORDS;
-    let end = base + last * LINK_WORDS;
-    any_hopeless(&records[begin..end], last - first, s.to - s.from)
+    let begin = base + s.first * LINK_WORDS;
+    let end = base + s.last * LINK_WORDS;
+    any_hopeless(&records[begin..end], s.to - s.from)
 }

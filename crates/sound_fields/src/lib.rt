@@ -25,13 +25,9 @@ fn span_ok(store: &[u8], records: &[u32], base: usize, s: Span, kids: usize) -> 
     requires { (base ≡ links_at records.now) × Head (length store.now) records.now × Within records.now s }
     ensures { result ≡ object_ok kids (object_in store.now records.now s) }
 {
-    let from = s.from;
-    let to = s.to;
-    let first = s.first;
-    let last = s.last;
-    let begin = base + first * LINK_WORDS;
-    let end = base + last * LINK_WORDS;
-    object_ok(&store[from..to], &records[begin..end], last - first, kids)
+    let begin = base + s.first * LINK_WORDS;
+    let end = base + s.last * LINK_WORDS;
+    object_ok(&store[s.from..s.to], &records[begin..end], kids)
 }
 
 // The same of a closed object: an order can fill them too.
@@ -39,10 +35,7 @@ fn closed_span_ok(store: &[u8], records: &[u32], base: usize, s: Span, kids: usi
     requires { (base ≡ links_at records.now) × Head (length store.now) records.now × Within records.now s }
     ensures { result ≡ closed_ok kids (object_in store.now records.now s) }
 {
-    if !span_ok(store, records, base, s, kids) {
-        return false;
-    }
-    !span_hopeless(records, base, s)
+    span_ok(store, records, base, s, kids) && !span_hopeless(records, base, s)
 }
 
 // The fields of every open object.
@@ -53,9 +46,7 @@ pub fn opens_ok(store: &[u8], records: &[u32]) -> bool
     let k = read_counts(records);
     let kids = k.closed;
     let base = LINKS_AT + k.objects * 2;
-    let mut d = k.depth;
-    while 0 < d {
-        d -= 1;
+    for d in (0..k.depth).rev() {
         if !span_ok(store, records, base, open_span(records, d), kids) {
             return false;
         }
@@ -71,9 +62,7 @@ pub fn closed_ok(store: &[u8], records: &[u32]) -> bool
     let k = read_counts(records);
     let p = k.objects;
     let base = LINKS_AT + p * 2;
-    let mut i = k.closed;
-    while 0 < i {
-        i -= 1;
+    for i in (0..k.closed).rev() {
         if !closed_span_ok(store, records, base, closed_span(records, p, i), i) {
             return false;
         }

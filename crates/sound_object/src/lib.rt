@@ -4,7 +4,7 @@
 ghost use Rattle.std.specs.Prelude.{◌≡◌, ◌+◌, ◌*◌, ◌≤◌, length};
 ghost use Rattle.lists.specs.Lists.{part, holds, zeros};
 ghost use Rattle.model_orders.specs.Object.{narrowest, widest, slot_ok};
-ghost use Rattle.layout.specs.Words.{link_words, links_of};
+ghost use Rattle.layout.specs.Words.{links_of};
 ghost use Rattle.layout.specs.Fields.{field_tests, fields_ok};
 ghost use Rattle.layout.specs.Links.{link_in, InWords};
 
@@ -32,11 +32,8 @@ fn field_ok(bytes: &[u8], l: Link, from: usize, kids: usize) -> bool
     requires { InWords l }
     ensures { result ≡ holds (field_tests kids from bytes.now (link_in l)) }
 {
-    let at = l.at;
-    let width = l.width;
-    let child = l.child;
-    let end = at + width;
-    if at < from {
+    let end = l.at + l.width;
+    if l.at < from {
         return false;
     }
     if !slot_ok(l) {
@@ -45,28 +42,23 @@ fn field_ok(bytes: &[u8], l: Link, from: usize, kids: usize) -> bool
     if bytes.len() < end {
         return false;
     }
-    if kids <= child {
+    if kids <= l.child {
         return false;
     }
-    field_zero(bytes, at, end)
+    field_zero(bytes, l.at, end)
 }
 
 // Every field of an object of these bytes and these links' words, whose children are below `kids`.
-pub fn object_ok(bytes: &[u8], links: &[u32], count: usize, kids: usize) -> bool
-    requires { length links.now ≡ count * link_words }
+pub fn object_ok(bytes: &[u8], links: &[u32], kids: usize) -> bool
     ensures { result ≡ fields_ok kids 0 bytes.now (links_of links.now) }
 {
     let mut from = 0;
-    let mut i = 0;
-    let mut left = count;
-    while 0 < left {
-        let l = link_at(links, i);
+    for words in links.chunks_exact(LINK_WORDS) {
+        let l = link_at(words, 0);
         if !field_ok(bytes, l, from, kids) {
             return false;
         }
         from = l.at + l.width;
-        i += LINK_WORDS;
-        left -= 1;
     }
     true
 }

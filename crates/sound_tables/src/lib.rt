@@ -1,10 +1,9 @@
 // Tests of the record store: limits, lengths and counts, and the four tables.
 #![tactic(auto)]
 
-ghost use Rattle.std.specs.Prelude.{◌≡◌, ◌+◌, ◌≤◌, ◌<◌, ◌&&◌, length, get_or, leb, eqb};
-ghost use Rattle.lists.specs.Lists.{part, holds};
+ghost use Rattle.std.specs.Prelude.{◌≡◌, ◌+◌, ◌≤◌, ◌<◌, ◌&&◌, ◌-◌, length, get_or, leb, eqb};
+ghost use Rattle.lists.specs.Lists.{holds};
 ghost use Rattle.model.specs.Judge.{in_range, most_open};
-ghost use Rattle.layout.specs.Tables.{rises, falls};
 ghost use Rattle.layout.specs.Words.{object_limit, closed_count, open_depth, ends_at, link_ends_at, link_begins_at, need as recordsNeed, store_length, link_limit, limits_in};
 ghost use Rattle.layout.specs.Sound.{head_ok, table_tests};
 ghost use Rattle.layout.specs.Known.{Head};
@@ -16,45 +15,7 @@ use layout::words::{
     OPEN_DEPTH, need, word,
 };
 
-// Whether, from index `at` on, each of the next `more` entries is no lower than the one before it.
-fn rising(records: &[u32], at: usize, more: usize) -> bool
-    requires { at + more < length records.now }
-    ensures { result ≡ rises (part at (at + more + 1) records.now) }
-{
-    let end = at + more + 1;
-    let mut last = word(records, at);
-    let mut i = at + 1;
-    while i < end {
-        let x = word(records, i);
-        if x < last {
-            return false;
-        }
-        last = x;
-        i += 1;
-    }
-    true
-}
-
-// Whether, from index `at` on, each of the next `more` entries is at least `by` below the one before it.
-fn falling(records: &[u32], at: usize, more: usize, by: usize) -> bool
-    requires { (at + more < length records.now) × (by ≤ 1) }
-    ensures { result ≡ falls by (part at (at + more + 1) records.now) }
-{
-    let end = at + more + 1;
-    let mut last = word(records, at);
-    let mut i = at + 1;
-    while i < end {
-        let x = word(records, i);
-        if last < x + by {
-            return false;
-        }
-        last = x;
-        i += 1;
-    }
-    true
-}
-
-// The limits, and the lengths of both stores.
+// The limits, and the lengths of both stores. Each test is one comparison: they are joined without a branch.
 fn limits_ok(n: usize, records: &[u32]) -> bool
     requires { link_begins_at records.now < length records.now }
     ensures { result ≡ (holds (in_range (limits_in records.now)) && leb (recordsNeed (object_limit records.now) (link_limit records.now)) (length records.now) && eqb (store_length records.now) n) }
@@ -95,12 +56,12 @@ pub fn head_ok(n: usize, records: &[u32]) -> bool
     limits_ok(n, records) & counts_ok(records)
 }
 
-// Whether open and closed objects do not meet, at these places of the tables' last entries.
-fn apart(records: &[u32], end: usize, begin: usize) -> bool
-    requires { (end < length records.now) × (begin < length records.now) }
-    ensures { result ≡ leb (get_or records.now end 0) (get_or records.now begin 0) }
+// Whether open and closed objects do not meet, by these tables' last entries.
+fn apart(ends: &[u32], begins: &[u32]) -> bool
+    requires { (0 < length ends.now) × (0 < length begins.now) }
+    ensures { result ≡ leb (get_or ends.now (length ends.now - 1) 0) (get_or begins.now (length begins.now - 1) 0) }
 {
-    word(records, end) <= word(records, begin)
+    ends[ends.len() - 1] <= begins[begins.len() - 1]
 }
 
 // The four tables, and that open and closed do not meet.
@@ -109,12 +70,14 @@ pub fn tables_ok(records: &[u32]) -> bool
     ensures { result ≡ holds (table_tests records.now) }
 {
     let k = read_counts(records);
-    let c = k.closed;
-    let d = k.depth;
     let at = LINK_BEGINS_AT + k.objects;
-    rising(records, ENDS_AT, d)
-        & rising(records, LINK_ENDS_AT, d)
-        & falling(records, BEGINS_AT, c, 1)
-        & falling(records, at, c, 0)
-        & (apart(records, ENDS_AT + d, BEGINS_AT + c) & apart(records, LINK_ENDS_AT + d, at + c))
+    let ends = &records[ENDS_AT..ENDS_AT + k.depth + 1];
+    let link_ends = &records[LINK_ENDS_AT..LINK_ENDS_AT + k.depth + 1];
+    let begins = &records[BEGINS_AT..BEGINS_AT + k.closed + 1];
+    let link_begins = &records[at..at + k.closed + 1];
+    ends.is_sorted()
+        & link_ends.is_sorted()
+        & begins.is_sorted_by(|a, b| b < a)
+        & link_begins.is_sorted_by(|a, b| b <= a)
+        & (apart(ends, begins) & apart(link_ends, link_begins))
 }

@@ -3,7 +3,9 @@
 
 ghost use Rattle.std.specs.Prelude.{◌≡◌};
 ghost use Rattle.layout.specs.Sound.{sound};
+ghost use Rattle.soundness.specs.Tested.{tested};
 
+use answer::{Refusal, Refused, Tally};
 use layout::words::{BEGINS_AT, CLOSED_COUNT, ENDS_AT, OPEN_DEPTH, word};
 use sound_fields::{closed_ok, opens_ok};
 use sound_tables::{head_ok, tables_ok};
@@ -20,11 +22,21 @@ pub fn is_sound(store: &[u8], records: &[u32]) -> bool
     }
     let top = word(records, ENDS_AT + word(records, OPEN_DEPTH));
     let low = word(records, BEGINS_AT + word(records, CLOSED_COUNT));
-    if !memory_compare::bytes::all_zero(&store[top..low]) {
+    if !memory_compare::all_zero(&store[top..low]) {
         return false;
     }
     if !opens_ok(store, records) {
         return false;
     }
     closed_ok(store, records)
+}
+
+// The same as what a call tells: 12 where they are none.
+pub fn test(store: &[u8], records: &[u32]) -> Result<(), Refused>
+    ensures { result ≡ tested (sound store.now records.now) }
+{
+    if is_sound(store, records) {
+        return Ok(());
+    }
+    Err(Refusal::Unsound.with(Tally::none()))
 }

@@ -1,4 +1,5 @@
 -- Each way through a pack, as its definition has it.
+use Rattle.std.specs.Prelude.{Ok, Err}
 use mathlib.Core.Path.{◌≡◌, refl}
 use Prim.Native.Nat.{ℕ, ◌≤◌, ◌<◌}
 use mathlib.Core.List.{List, [], ◌∷◌, ◌++◌}
@@ -13,7 +14,6 @@ use Rattle.answer.specs.declared.tally.Tally.{Tally}
 use Rattle.answer.specs.declared.Overflow.{Overflow}
 use Rattle.answer.specs.declared.Refusal.{Refusal}
 use Rattle.answer.specs.declared.Refusal.TheVariants as Refusal
-use Rattle.answer.specs.declared.Packing.TheVariants.{Done, Refused}
 use Rattle.model_orders.specs.Table.{placed, overflow}
 use Rattle.model_orders.specs.Copies.{Arrangement, length_of}
 use Rattle.model.specs.Judge.{most_copies, Test, refused, verdict, output_short, overflows}
@@ -34,28 +34,28 @@ module _ (b w : List ℕ) (c : Arrangement) (copies : ℕ) (out m : List ℕ) wh
   abbrev pub rest : PackOut
   rest = pack_by (verdict (overflows c.outcome ++ (output_short (length out) (length_of c) ∷ []))) c copies b w out m
 
-  pub over-told : {v : Overflow} → c.outcome ≡ overflow v → packed (Refused (Refusal.Overflow v) (tally_in b w)) out (cleared copies w m) ≡ rest
+  pub over-told : {v : Overflow} → c.outcome ≡ overflow v → packed (Err (record { why = Refusal.Overflow v; tally = tally_in b w })) out (cleared copies w m) ≡ rest
   unfolding verdict
   over-told e = rw e
 
   module _ {o : List ℕ} (e : c.outcome ≡ placed o) where
-    pub short-told : length out < length_of c → packed (Refused Refusal.OutputShort (tally_in b w)) out (cleared copies w m) ≡ rest
+    pub short-told : length out < length_of c → packed (Err (record { why = Refusal.OutputShort; tally = tally_in b w })) out (cleared copies w m) ≡ rest
     unfolding verdict
     short-told h = rw (e, lt-ltb (length out) (length_of c) h)
 
     pub placed-told : length_of c ≤ length out
-        → packed (Done (table_made c) (tally_in b w)) (over 0 (table_in (decode b w) c) out) (cleared copies w m) ≡ rest
+        → packed (Ok (record { table = table_made c; tally = tally_in b w })) (over 0 (table_in (decode b w) c) out) (cleared copies w m) ≡ rest
     unfolding verdict
     placed-told h = rw (e, le-ltb (length out) (length_of c) h)
 
 -- ---- the tests before
 
 refused-packs : {ts : List Test} {why : Refusal} {t : Tally} (copies : ℕ) (b w out m : List ℕ) (done : PackOut) → Comes ts (refused why) → t ≡ beside why (tally_in b w) → clears why ≡ false
-    → packed (Refused why t) out m ≡ settle_pack_step (verdict ts) copies b w out m done
+    → packed (Err (record { why = why; tally = t })) out m ≡ settle_pack_step (verdict ts) copies b w out m done
 refused-packs copies b w out m done c e k = rw (verdict-is c, e, k)
 
 pub pack-unsound : {t : Tally} (b w : List ℕ) (id copies : ℕ) (out m : List ℕ) → t ≡ no_tally → sound b w ≡ false
-    → packed (Refused Refusal.Unsound t) out m ≡ pack_step id copies b w out m
+    → packed (Err (record { why = Refusal.Unsound; tally = t })) out m ≡ pack_step id copies b w out m
 unfolding pack_step
 pack-unsound b w id copies out m e h = refused-packs copies b w out m _ (this (rw h)) e refl
 
@@ -69,7 +69,7 @@ module _ {b w : List ℕ} {s : State} {t : Tally} (h : Held b w s t) (id copies 
   is_sound : not (sound b w) ≡ false
   is_sound = rw h.counts.is_sound
 
-  pub pack-many : {z : Tally} → z ≡ no_tally → most_copies < copies → packed (Refused Refusal.OutOfRange z) out m ≡ pack_step id copies b w out m
+  pub pack-many : {z : Tally} → z ≡ no_tally → most_copies < copies → packed (Err (record { why = Refusal.OutOfRange; tally = z })) out m ≡ pack_step id copies b w out m
   unfolding pack_step
   pack-many e k = refused-packs copies b w out m _ (next is_sound (this (lt-ltb most_copies copies k))) e refl
 
@@ -77,7 +77,7 @@ module _ {b w : List ℕ} {s : State} {t : Tally} (h : Held b w s t) (id copies 
     allowed : ltb most_copies copies ≡ false
     allowed = le-ltb most_copies copies few
 
-    pub pack-little : {z : Tally} → z ≡ no_tally → length m < need → packed (Refused Refusal.OutOfRange z) out m ≡ pack_step id copies b w out m
+    pub pack-little : {z : Tally} → z ≡ no_tally → length m < need → packed (Err (record { why = Refusal.OutOfRange; tally = z })) out m ≡ pack_step id copies b w out m
     unfolding pack_step
     pack-little e k = refused-packs copies b w out m _ (next is_sound (next allowed (this (lt-ltb (length m) _ (omega (arith, need-is, k)))))) e refl
 
@@ -85,7 +85,7 @@ module _ {b w : List ℕ} {s : State} {t : Tally} (h : Held b w s t) (id copies 
       enough : ltb (length m) (work_need (object_limit w) (link_limit w) copies) ≡ false
       enough = le-ltb (length m) _ (omega (arith, need-is, long))
 
-      pub pack-open : 0 < t.depth → packed (Refused Refusal.ObjectOpen t) out m ≡ pack_step id copies b w out m
+      pub pack-open : 0 < t.depth → packed (Err (record { why = Refusal.ObjectOpen; tally = t })) out m ≡ pack_step id copies b w out m
       unfolding pack_step
       pack-open k = refused-packs copies b w out m _ (next is_sound (next allowed (next enough (this (rw (ne_eqb (open_depth w) 0 (λ e. omega arith))))))) h.tally_is refl
 
@@ -93,7 +93,7 @@ module _ {b w : List ℕ} {s : State} {t : Tally} (h : Held b w s t) (id copies 
         idle : not (eqb (open_depth w) 0) ≡ false
         idle = rw (eq-eqb (open_depth w) 0 (omega arith))
 
-        pub pack-unknown : t.objects ≤ id → packed (Refused Refusal.NotClosed t) out m ≡ pack_step id copies b w out m
+        pub pack-unknown : t.objects ≤ id → packed (Err (record { why = Refusal.NotClosed; tally = t })) out m ≡ pack_step id copies b w out m
         unfolding pack_step
         pack-unknown k = refused-packs copies b w out m _ (next is_sound (next allowed (next enough (next idle (this (le-leb (closed_count w) id (omega arith))))))) h.tally_is refl
 

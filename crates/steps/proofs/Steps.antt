@@ -1,4 +1,5 @@
 -- Every call on stores that hold a session tells what the abstract call tells, and leaves stores that hold the session that the abstract call leaves.
+use Rattle.std.specs.Prelude.{Ok}
 use mathlib.Core.Path.{◌≡◌, refl, sym, ap, subst, ◌∙◌}
 use Prim.Native.Nat.{ℕ, ◌+◌, ◌-◌, ◌≤◌, ◌<◌}
 use mathlib.Core.List.{List, [], ◌∷◌, ◌++◌}
@@ -13,7 +14,6 @@ use Rattle.answer.specs.Number.{beside, no_tally}
 use Rattle.answer.specs.declared.tally.Tally.{Tally}
 use Rattle.answer.specs.declared.Refusal.{Refusal}
 use Rattle.answer.specs.declared.Refusal.TheVariants as Refusal
-use Rattle.answer.specs.declared.Answer.TheVariants.{Done}
 use Rattle.model_orders.specs.Object.{size_of, slot_ok, new_slot, hopeless_object}
 use Rattle.model.specs.Judge.{most_open, Limits, Verdict, accepted, refused, verdict, judge_start, judge_open, judge_put, judge_link, judge_close, judge_drop, judge_tally}
 use Rattle.model.specs.Told.{done_close, refusal, refused_told}
@@ -196,7 +196,7 @@ start-drawn objects links s e = go (judge_start m (need objects links) (length s
     m = limits_of objects links s.bytes
 
     left : Verdict → Left
-    left v = left_by (settle_step v s.bytes s.words (outcome (Done no_tally) (replicate (length s.bytes) 0) (start_words m s.words)))
+    left v = left_by (settle_step v s.bytes s.words (outcome (Ok no_tally) (replicate (length s.bytes) 0) (start_words m s.words)))
 
     go : (v : Verdict) → judge_start m (need objects links) (length s.words) ≡ v → (left v).told.number ≡ 0 → Follows s (left v) (leaves (started m))
     go accepted f z = leaves-follow 0 (start-leaves m s.words (startable m s.words f) s.bytes refl)

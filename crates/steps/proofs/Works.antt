@@ -1,4 +1,5 @@
 -- Each way through a call's code, as the call's definition has it.
+use Rattle.std.specs.Prelude.{Ok, Err}
 use mathlib.Core.Path.{◌≡◌}
 use Prim.Native.Nat.{ℕ, suc, ◌+◌, ◌-◌, ◌*◌, ◌^◌, ◌≤◌, ◌<◌}
 use mathlib.Core.List.{List, [], ◌∷◌}
@@ -20,7 +21,6 @@ use Rattle.answer.specs.Tally.{opened, grown, released}
 use Rattle.answer.specs.declared.tally.Tally.{Tally}
 use Rattle.answer.specs.declared.Refusal.{Refusal}
 use Rattle.answer.specs.declared.Refusal.TheVariants as Refusal
-use Rattle.answer.specs.declared.Answer.TheVariants.{Done, Refused}
 use Rattle.model_orders.specs.Object.{Link, slot_ok}
 use Rattle.model.specs.Told.{done, refused_told}
 use Rattle.model.specs.Judge.{most_objects, most_links, most_bytes, most_open, Verdict, accepted, refused, Test, verdict, unsound, nothing_open, in_range}
@@ -41,7 +41,7 @@ settle-accepted : {ts : List Test} {out : Out} (b w : List ℕ) → Comes ts acc
 settle-accepted b w c = rw (verdict-is c)
 
 settle-refused : {ts : List Test} {why : Refusal} {b w : List ℕ} {t : Tally} (out : Out) → Comes ts (refused why) → t ≡ beside why (tally_in b w)
-    → outcome (Refused why t) b w ≡ settle_step (verdict ts) b w out
+    → outcome (Err (record { why = why; tally = t })) b w ≡ settle_step (verdict ts) b w out
 settle-refused out c e = rw (verdict-is c, e)
 
 -- ---- stores that are not sound
@@ -88,19 +88,19 @@ module _ (objects links bytes records : ℕ) where
       (omega (arith, leb-true bytes most_bytes (at 4)), leb-true _ _ (and_right ranged (leb (need objects links) records) h))
 
 module _ (objects links : ℕ) (b w : List ℕ) {t : Tally} (e : t ≡ no_tally) where
-  pub start-refused : not (startable objects links (length b) (length w)) ≡ true → outcome (Refused Refusal.OutOfRange t) b w ≡ start_step objects links b w
+  pub start-refused : not (startable objects links (length b) (length w)) ≡ true → outcome (Err (record { why = Refusal.OutOfRange; tally = t })) b w ≡ start_step objects links b w
   unfolding start_step
   start-refused k = settle-refused _ (this (rw startable-is at k)) e
 
   pub start-done : not (startable objects links (length b) (length w)) ≡ false
-      → outcome (Done t) (over 0 (replicate (length b - 0) 0) b) (start_words (limits_of objects links b) w) ≡ start_step objects links b w
+      → outcome (Ok t) (over 0 (replicate (length b - 0) 0) b) (start_words (limits_of objects links b) w) ≡ start_step objects links b w
   unfolding start_step
   start-done k =
       rw (e, sub-zero (length b), over-whole (replicate (length b) 0) b (length-replicate (length b) 0)) (settle-accepted b w (next (rw startable-is at k) none))
 
 -- ---- tally
 
-pub tally-done : {b w : List ℕ} {t : Tally} → sound b w ≡ true → t ≡ tally_in b w → outcome (Done t) b w ≡ tally_step b w
+pub tally-done : {b w : List ℕ} {t : Tally} → sound b w ≡ true → t ≡ tally_in b w → outcome (Ok t) b w ≡ tally_step b w
 unfolding tally_step
 tally-done {b} {w} h e = rw e (settle-accepted b w (next (rw h) none))
 
@@ -128,12 +128,12 @@ module _ {b w : List ℕ} {s : State} {t : Tally} (h : Held b w s t) where
 
   -- ---- open
 
-  pub open_full : most_open ≤ s.depth → outcome (Refused Refusal.DepthFull t) b w ≡ open_step b w
+  pub open_full : most_open ≤ s.depth → outcome (Err (record { why = Refusal.DepthFull; tally = t })) b w ≡ open_step b w
   unfolding open_step
   open_full k = settle-refused _ (next is_sound (this (le-leb most_open (open_depth w) (omega arith)))) h.tally_is
 
   pub open_done : s.depth < most_open
-      → outcome (Done (opened t)) b (set (set (set w (ends_at + s.depth + 1) s.top) (link_ends_at + s.depth + 1) s.link_top) open_depth_at (s.depth + 1)) ≡ open_step b w
+      → outcome (Ok (opened t)) b (set (set (set w (ends_at + s.depth + 1) s.top) (link_ends_at + s.depth + 1) s.link_top) open_depth_at (s.depth + 1)) ≡ open_step b w
   unfolding open_step
   open_done k =
       let r = h.counts in
@@ -142,16 +142,16 @@ module _ {b w : List ℕ} {s : State} {t : Tally} (h : Held b w s t) where
   -- ---- put
 
   module _ (vs : List ℕ) where
-    pub put-none : s.depth ≡ 0 → outcome (Refused Refusal.NothingOpen t) b w ≡ put_step vs b w
+    pub put-none : s.depth ≡ 0 → outcome (Err (record { why = Refusal.NothingOpen; tally = t })) b w ≡ put_step vs b w
     unfolding put_step
     put-none k = settle-refused _ (idle k) h.tally_is
 
-    pub put_full : (s.depth ≡ 0 → ⊥) → length b - t.bytes < length vs → outcome (Refused Refusal.StoreFull t) b w ≡ put_step vs b w
+    pub put_full : (s.depth ≡ 0 → ⊥) → length b - t.bytes < length vs → outcome (Err (record { why = Refusal.StoreFull; tally = t })) b w ≡ put_step vs b w
     unfolding put_step
     put_full some k = settle-refused _ (ready some (this (full (length vs) k))) h.tally_is
 
     pub put-done : (s.depth ≡ 0 → ⊥) → length vs ≤ length b - t.bytes
-        → outcome (Done (grown (length vs) 0 t)) (over s.top vs b) (set w (ends_at + s.depth) (s.top + length vs)) ≡ put_step vs b w
+        → outcome (Ok (grown (length vs) 0 t)) (over s.top vs b) (set w (ends_at + s.depth) (s.top + length vs)) ≡ put_step vs b w
     unfolding put_step
     put-done some k =
         let r = h.counts in
@@ -159,11 +159,11 @@ module _ {b w : List ℕ} {s : State} {t : Tally} (h : Held b w s t) where
 
   -- ---- drop
 
-  pub drop-none : s.depth ≡ 0 → outcome (Refused Refusal.NothingOpen t) b w ≡ drop_step b w
+  pub drop-none : s.depth ≡ 0 → outcome (Err (record { why = Refusal.NothingOpen; tally = t })) b w ≡ drop_step b w
   unfolding drop_step
   drop-none k = settle-refused _ (idle k) h.tally_is
 
-  pub drop-done : {own : Span} → Innermost w s own → outcome (Done (released (own.to - own.from) (own.last - own.first) t)) (dropped_bytes b w) (dropped_words w) ≡ drop_step b w
+  pub drop-done : {own : Span} → Innermost w s own → outcome (Ok (released (own.to - own.from) (own.last - own.first) t)) (dropped_bytes b w) (dropped_words w) ≡ drop_step b w
   unfolding drop_step
   drop-done k = rw (k.is, h.tally_is) (settle-accepted b w (ready (λ e. omega (arith, k.some)) none))
 
@@ -173,17 +173,17 @@ module _ {b w : List ℕ} {s : State} {t : Tally} (h : Held b w s t) where
     abbrev made : Link
     made = made_link width id inner w
 
-    pub link-none : s.depth ≡ 0 → outcome (Refused Refusal.NothingOpen t) b w ≡ link_step width id inner b w
+    pub link-none : s.depth ≡ 0 → outcome (Err (record { why = Refusal.NothingOpen; tally = t })) b w ≡ link_step width id inner b w
     unfolding link_step
     link-none k = settle-refused _ (idle k) h.tally_is
 
     module _ (some : s.depth ≡ 0 → ⊥) where
-      pub link-field : not (slot_ok made.slot) ≡ true → outcome (Refused Refusal.BadField t) b w ≡ link_step width id inner b w
+      pub link-field : not (slot_ok made.slot) ≡ true → outcome (Err (record { why = Refusal.BadField; tally = t })) b w ≡ link_step width id inner b w
       unfolding link_step
       link-field k = settle-refused _ (ready some (this k)) h.tally_is
 
       module _ (right : not (slot_ok made.slot) ≡ false) where
-        pub link-child : t.objects ≤ id → outcome (Refused Refusal.NotClosed t) b w ≡ link_step width id inner b w
+        pub link-child : t.objects ≤ id → outcome (Err (record { why = Refusal.NotClosed; tally = t })) b w ≡ link_step width id inner b w
         unfolding link_step
         link-child k = settle-refused _ (ready some (next right (this (le-leb (closed_count w) id (omega arith))))) h.tally_is
 
@@ -191,7 +191,7 @@ module _ {b w : List ℕ} {s : State} {t : Tally} (h : Held b w s t) where
           known : leb (closed_count w) id ≡ false
           known = lt-leb (closed_count w) id (omega arith)
 
-          pub link-full : s.links ≤ t.links → outcome (Refused Refusal.LinksFull t) b w ≡ link_step width id inner b w
+          pub link-full : s.links ≤ t.links → outcome (Err (record { why = Refusal.LinksFull; tally = t })) b w ≡ link_step width id inner b w
           unfolding link_step
           link-full k = settle-refused _ (ready some (next right (next known (this (le-leb (link_limit w) (tally_in b w).links (omega arith)))))) h.tally_is
 
@@ -199,11 +199,11 @@ module _ {b w : List ℕ} {s : State} {t : Tally} (h : Held b w s t) where
             free : leb (link_limit w) (tally_in b w).links ≡ false
             free = lt-leb (link_limit w) (tally_in b w).links (omega arith)
 
-            pub link-room : length b - t.bytes < width → outcome (Refused Refusal.StoreFull t) b w ≡ link_step width id inner b w
+            pub link-room : length b - t.bytes < width → outcome (Err (record { why = Refusal.StoreFull; tally = t })) b w ≡ link_step width id inner b w
             unfolding link_step
             link-room k = settle-refused _ (ready some (next right (next known (next free (this (full width k)))))) h.tally_is
 
-            pub link-done : width ≤ length b - t.bytes → outcome (Done (grown width 1 t)) b (link_words_of made w) ≡ link_step width id inner b w
+            pub link-done : width ≤ length b - t.bytes → outcome (Ok (grown width 1 t)) b (link_words_of made w) ≡ link_step width id inner b w
             unfolding link_step
             link-done k = rw h.tally_is (settle-accepted b w (ready some (next right (next known (next free (next (roomy width k) none))))))
 

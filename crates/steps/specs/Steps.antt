@@ -1,13 +1,10 @@
 -- docs/RULES.md, sections 5 and 6: each call as a function of the two stores, b (bytes) and w (record words): the answer, and both stores after it.
-use Rattle.std.specs.Prelude.{ℕ, ◌+◌, ◌-◌, ◌*◌, List, length, set, replicate, ltb}
+use Rattle.std.specs.Prelude.{ℕ, ◌+◌, ◌-◌, ◌*◌, List, length, set, replicate, ltb, Ok, Err}
 use Rattle.lists.specs.Lists.{pick, part, over, first_that}
 use Rattle.answer.specs.Number.{no_tally, beside}
 use Rattle.answer.specs.Tally.{opened, grown, added, released}
 use Rattle.answer.specs.declared.tally.Tally.{Tally}
-use Rattle.answer.specs.declared.Answer.{Answer}
-use Rattle.answer.specs.declared.Answer.TheVariants.{Done, Refused}
-use Rattle.answer.specs.declared.Closing.{Closing}
-use Rattle.answer.specs.declared.Closing.TheVariants as Closing
+use Rattle.answer.specs.Answers.{Answer, Closing}
 use Rattle.model_orders.specs.Object.{Link, Object, new_slot, hopeless_object, same_object}
 use Rattle.model.specs.Judge.{Limits, Verdict, accepted, refused, judge_start, judge_open, judge_put, judge_link, judge_close, judge_drop, judge_tally}
 use Rattle.layout.specs.declared.state.State.{State}
@@ -48,7 +45,7 @@ tally_by n s =
 -- by a verdict: a refused call leaves both stores as they were
 abbrev pub settle_step : Verdict → List ℕ → List ℕ → Out → Out
 settle_step accepted b w out = out
-settle_step (refused why) b w out = outcome (Refused why (beside why (tally_in b w))) b w
+settle_step (refused why) b w out = outcome (Err (record { why = why; tally = beside why (tally_in b w) })) b w
 
 -- ---- start: the whole byte store and the needed words cleared, the limits and the length noted; what stood there plays no part
 
@@ -62,7 +59,7 @@ start_words m w =
 unfoldable pub start_step : ℕ → ℕ → List ℕ → List ℕ → Out
 start_step objects links b w =
     settle_step (judge_start (limits_of objects links b) (need objects links) (length w)) b w
-    (outcome (Done no_tally) (replicate (length b) 0) (start_words (limits_of objects links b) w))
+    (outcome (Ok no_tally) (replicate (length b) 0) (start_words (limits_of objects links b) w))
 
 -- ---- open: one more entry in the tables of ends, the same as the last
 
@@ -70,14 +67,14 @@ unfoldable pub open_step : List ℕ → List ℕ → Out
 open_step b w =
     let d = open_depth w in
     settle_step (judge_open (sound b w) (tally_in b w)) b w
-    (outcome (Done (opened (tally_in b w))) b (set (set (set w (ends_at + d + 1) (top w)) (link_ends_at + d + 1) (link_top w)) open_depth_at (d + 1)))
+    (outcome (Ok (opened (tally_in b w))) b (set (set (set w (ends_at + d + 1) (top w)) (link_ends_at + d + 1) (link_top w)) open_depth_at (d + 1)))
 
 -- ---- put: the bytes behind the open ones
 
 unfoldable pub put_step : List ℕ → List ℕ → List ℕ → Out
 put_step vs b w =
     settle_step (judge_put (sound b w) (limits_in w) (tally_in b w) (length vs)) b w
-    (outcome (Done (grown (length vs) 0 (tally_in b w))) (over (top w) vs b) (set w (ends_at + open_depth w) (top w + length vs)))
+    (outcome (Ok (grown (length vs) 0 (tally_in b w))) (over (top w) vs b) (set w (ends_at + open_depth w) (top w + length vs)))
 
 -- ---- the innermost open object: where it begins, and what it is
 
@@ -104,7 +101,7 @@ link_words_of l w =
 unfoldable pub link_step : ℕ → ℕ → ℕ → List ℕ → List ℕ → Out
 link_step width id inner b w =
     let l = made_link width id inner w in
-    settle_step (judge_link (sound b w) (limits_in w) (tally_in b w) l.slot id) b w (outcome (Done (grown width 1 (tally_in b w))) b (link_words_of l w))
+    settle_step (judge_link (sound b w) (limits_in w) (tally_in b w) l.slot id) b w (outcome (Ok (grown width 1 (tally_in b w))) b (link_words_of l w))
 
 -- ---- drop: the innermost open object's bytes cleared
 
@@ -120,12 +117,12 @@ less_inner b w = released (top w - under w) (link_top w - link_under w) (tally_i
 
 unfoldable pub drop_step : List ℕ → List ℕ → Out
 drop_step b w =
-    settle_step (judge_drop (sound b w) (tally_in b w)) b w (outcome (Done (less_inner b w)) (dropped_bytes b w) (dropped_words w))
+    settle_step (judge_drop (sound b w) (tally_in b w)) b w (outcome (Ok (less_inner b w)) (dropped_bytes b w) (dropped_words w))
 
 -- ---- tally
 
 unfoldable pub tally_step : List ℕ → List ℕ → Out
-tally_step b w = settle_step (judge_tally (sound b w)) b w (outcome (Done (tally_in b w)) b w)
+tally_step b w = settle_step (judge_tally (sound b w)) b w (outcome (Ok (tally_in b w)) b w)
 
 -- ---- close
 
@@ -139,7 +136,7 @@ closing a b w = record { answer = a; bytes = b; words = w }
 
 abbrev pub settle_close : Verdict → List ℕ → List ℕ → CloseOut → CloseOut
 settle_close accepted b w out = out
-settle_close (refused why) b w out = closing (Closing.Refused why (beside why (tally_in b w))) b w
+settle_close (refused why) b w out = closing (Err (record { why = why; tally = beside why (tally_in b w) })) b w
 
 -- the lowest id of an equal closed object; the count of closed ones where none is
 unfoldable pub twin_in : List ℕ → List ℕ → ℕ
@@ -147,7 +144,7 @@ twin_in b w = first_that (same_object (innermost_in b w)) (closed_to b w (closed
 
 -- a duplicate is dropped
 abbrev pub close_twin : List ℕ → List ℕ → CloseOut
-close_twin b w = closing (Closing.Done (record { 0 = twin_in b w }) (less_inner b w)) (dropped_bytes b w) (dropped_words w)
+close_twin b w = closing (Ok (record { id = record { 0 = twin_in b w }; tally = less_inner b w })) (dropped_bytes b w) (dropped_words w)
 
 -- where its bytes and its links come to begin, in front of the closed ones
 abbrev pub new_low : List ℕ → ℕ
@@ -168,7 +165,7 @@ sealed_words w =
     (begins_at + c + 1) (new_low w)) (link_begins_at w + c + 1) (new_link_low w)) closed_count_at (c + 1)) open_depth_at (open_depth w - 1)
 
 abbrev pub close_new : List ℕ → List ℕ → CloseOut
-close_new b w = closing (Closing.Done (record { 0 = closed_count w }) (added (tally_in b w))) (sealed_bytes b w) (sealed_words w)
+close_new b w = closing (Ok (record { id = record { 0 = closed_count w }; tally = added (tally_in b w) })) (sealed_bytes b w) (sealed_words w)
 
 unfoldable pub close_step : List ℕ → List ℕ → CloseOut
 close_step b w =

@@ -1,5 +1,5 @@
 -- A link in the work memory: two words, each of which holds two words of its record.
-use Rattle.std.specs.Prelude.{ℕ, ◌+◌, ◌*◌, ◌/◌, ◌%◌, ◌≡◌, List, get_or}
+use Rattle.std.specs.Prelude.{ℕ, ◌+◌, ◌/◌, ◌%◌, ◌≡◌, List, get_or}
 use Rattle.model_orders.specs.Object.{Link}
 use Rattle.model_orders.specs.Words.{link_of_words}
 

@@ -103,6 +103,5 @@ pub fn clear(work: &mut [u64], a: Areas)
     requires { a.end ≤ length work.old }
     ensures { work.new ≡ over 0 (replicate a.end 0) work.old }
 {
-    let end = a.end;
-    memory::longs::clear(work, 0, end);
+    memory::clear(work, 0, a.end, 0);
 }

@@ -1,5 +1,7 @@
 -- Too little work memory, or the calls run.
 use native.Mathlib.Omega.{arith}
+use Rattle.std.proofs.Common.{zero-le}
+use Rattle.memory.proofs.Writes.{cleared-over}
 use mathlib.Core.Path.{sym, ◌∙◌}
 use lib.Seq.{length-take-le}
 use Rattle.batch.proofs.Steps.{batch-short, batch_run}
@@ -19,4 +21,5 @@ run_indexed-r-requires c =
 pub returns : goal.returns
 returns c =
     batch_run _ _ _ _ c.read-s.ensures c.need-n.ensures c.if-work-n.false c.run_indexed-r.ensures
-    (c.run_indexed-r.auto.index ∙ length-take-le _ _ c.if-work-n.false) c.tally_sound.ensures c.clear.ensures
+    (c.run_indexed-r.auto.index ∙ length-take-le _ _ c.if-work-n.false) c.tally_sound.ensures
+    (c.clear.ensures ∙ cleared-over 0 _ c.need-n.result zero-le)

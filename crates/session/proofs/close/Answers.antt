@@ -1,21 +1,12 @@
--- Sound stores go on to `close_sound`; others are refused.
+-- By what the test tells.
+use mathlib.Core.Path.{refl, ap}
 use Rattle.steps.specs.Runs.{close, left_by_close, step_on}
-use Rattle.steps.proofs.Works.{unsound-told}
-use mathlib.Core.Path.{refl, ap, sym, ◌∙◌}
+use Rattle.session.proofs.Unsound.{close-unsound}
 use Rattle.session.proofs.close.Goals as goal
 
-pub close_sound-requires : goal.close_sound-requires
-close_sound-requires c = sym c.is_sound.ensures ∙ c.if-is_sound.true
-
-pub returns-then-is_sound : goal.returns-then-is_sound
-unfolding step_on
-returns-then-is_sound c = ap left_by_close c.close_sound.ensures
-
-pub shape_of-store : goal.shape_of-store
-shape_of-store c = refl
-
-pub shape_of-records : goal.shape_of-records
-shape_of-records c = refl
+pub returns-in_err-test : goal.returns-in_err-test
+returns-in_err-test c = close-unsound _ _ close refl c.in_err-test.ensures _ c.from_residual.ensures.1
 
 pub returns : goal.returns
-returns c = unsound-told close refl c.none.ensures (sym c.is_sound.ensures ∙ c.if-is_sound.false)
+unfolding step_on
+returns c = ap left_by_close c.close_sound.ensures

@@ -1,21 +1,12 @@
--- By whether the stores are sound.
-use mathlib.Core.Path.{refl, ap, sym, ◌∙◌}
+-- By what the test tells.
+use mathlib.Core.Path.{refl, ap}
 use Rattle.steps.specs.Runs.{put, left_by, step_on}
-use Rattle.steps.proofs.Works.{unsound-told}
+use Rattle.session.proofs.Unsound.{call-unsound}
 use Rattle.session.proofs.put.Goals as goal
 
-pub put_sound-requires : goal.put_sound-requires
-put_sound-requires c = sym c.is_sound.ensures ∙ c.if-is_sound.true
-
-pub returns-then-is_sound : goal.returns-then-is_sound
-unfolding step_on
-returns-then-is_sound c = ap left_by c.put_sound.ensures
-
-pub shape_of-store : goal.shape_of-store
-shape_of-store c = refl
-
-pub shape_of-records : goal.shape_of-records
-shape_of-records c = refl
+pub returns-in_err-test : goal.returns-in_err-test
+returns-in_err-test c = call-unsound _ _ (put _) refl c.in_err-test.ensures _ c.from_residual.ensures.1
 
 pub returns : goal.returns
-returns c = unsound-told (put _) refl c.none.ensures (sym c.is_sound.ensures ∙ c.if-is_sound.false)
+unfolding step_on
+returns c = ap left_by c.put_sound.ensures

@@ -1,15 +1,14 @@
--- By whether the stores are sound.
-use mathlib.Core.Path.{refl, ap, sym, ◌∙◌}
+-- By what the test tells.
+use mathlib.Core.Path.{refl, ap}
 use Rattle.steps.specs.Runs.{tally, left_by, step_on}
-use Rattle.steps.proofs.Works.{tally-done, unsound-told}
+use Rattle.steps.proofs.Works.{tally-done}
+use Rattle.session.proofs.Unsound.{call-unsound}
+use Rattle.soundness.proofs.Telling.{tested-ok}
 use Rattle.session.proofs.tally.Goals as goal
 
-pub tally_sound-requires : goal.tally_sound-requires
-tally_sound-requires c = sym c.is_sound.ensures ∙ c.if-is_sound.true
-
-pub returns-then-is_sound : goal.returns-then-is_sound
-unfolding step_on
-returns-then-is_sound c = ap left_by (tally-done (sym c.is_sound.ensures ∙ c.if-is_sound.true) c.tally_sound.ensures)
+pub returns-in_err-test : goal.returns-in_err-test
+returns-in_err-test c = call-unsound _ _ tally refl c.in_err-test.ensures _ c.from_residual.ensures.1
 
 pub returns : goal.returns
-returns c = unsound-told tally refl c.none.ensures (sym c.is_sound.ensures ∙ c.if-is_sound.false)
+unfolding step_on
+returns c = ap left_by (tally-done (tested-ok _ c.in_ok-test.ensures) c.tally_sound.ensures)

@@ -8,13 +8,13 @@ use Rattle.session_close.proofs.Closes.{Filled, Ready, own-slots, own-hopeless, 
 use Rattle.session_close.proofs.close_found.Goals as goal
 
 pub returns-then-s-eq0 : goal.returns-then-s-eq0
-returns-then-s-eq0 c = close-none (held c.requires.0 c.tally_of-t.ensures) c.if-s-eq0.true
+returns-then-s-eq0 c = rw c.with.ensures (close-none (held c.requires.0 c.tally_of-t.ensures) c.if-s-eq0.true)
 
 pub innermost-own-requires : goal.innermost-own-requires
 innermost-own-requires c = (words-read c.requires.0, some-open c.if-s-eq0.false)
 
 pub returns-then-own : goal.returns-then-own
-returns-then-own c = close-empty (held c.requires.0 c.tally_of-t.ensures) c.innermost-own.ensures c.if-own.true
+returns-then-own c = rw c.with-then-own.ensures (close-empty (held c.requires.0 c.tally_of-t.ensures) c.innermost-own.ensures c.if-own.true)
 
 pub span_hopeless-requires : goal.span_hopeless-requires
 span_hopeless-requires c =
@@ -26,7 +26,7 @@ pub returns-then-span_hopeless : goal.returns-then-span_hopeless
 returns-then-span_hopeless c =
     let k : Filled c.args.store.now c.args.records.now c.args.s c.tally_of-t.result c.innermost-own.result =
     record { held = held c.requires.0 c.tally_of-t.ensures; lies = c.innermost-own.ensures; filled = c.if-own.false } in
-    close-hopeless k (sym (c.span_hopeless.ensures ∙ own-hopeless k) ∙ c.if-span_hopeless.true)
+    rw c.with-then-span_hopeless.ensures (close-hopeless k (sym (c.span_hopeless.ensures ∙ own-hopeless k) ∙ c.if-span_hopeless.true))
 
 pub forget-requires : goal.forget-requires
 forget-requires c =
@@ -46,8 +46,8 @@ overflow_sub-own-then-id-s c =
     record { held = held c.requires.0 c.tally_of-t.ensures; lies = c.innermost-own.ensures; filled = c.if-own.false } in
     omega (arith, f.lies)
 
-pub discard-requires : goal.discard-requires
-discard-requires c =
+pub release-requires : goal.release-requires
+release-requires c =
     let f : Filled c.args.store.now c.args.records.now c.args.s c.tally_of-t.result c.innermost-own.result =
     record { held = held c.requires.0 c.tally_of-t.ensures; lies = c.innermost-own.ensures; filled = c.if-own.false } in
     omega (arith, f.held, f.lies)
@@ -58,7 +58,7 @@ returns-then-id-s c =
     record { held = held c.requires.0 c.tally_of-t.ensures; lies = c.innermost-own.ensures; filled = c.if-own.false } in
     let r : Ready c.args.store.now c.args.records.now c.args.s c.tally_of-t.result c.innermost-own.result =
     record { inner = f; hopes = sym (c.span_hopeless.ensures ∙ own-hopeless f) ∙ c.if-span_hopeless.false } in
-    rw (c.discard.ensures, c.forget.ensures.bytes, c.forget.ensures.words) (close-twin r (c.requires.1 (some-open c.if-s-eq0.false)) c.if-id-s.true)
+    rw (c.release.ensures, c.forget.ensures.bytes, c.forget.ensures.words) (close-twin r (c.requires.1 (some-open c.if-s-eq0.false)) c.if-id-s.true)
 
 pub returns-then-s : goal.returns-then-s
 returns-then-s c =
@@ -66,7 +66,7 @@ returns-then-s c =
     record { held = held c.requires.0 c.tally_of-t.ensures; lies = c.innermost-own.ensures; filled = c.if-own.false } in
     let r : Ready c.args.store.now c.args.records.now c.args.s c.tally_of-t.result c.innermost-own.result =
     record { inner = f; hopes = sym (c.span_hopeless.ensures ∙ own-hopeless f) ∙ c.if-span_hopeless.false } in
-    close-full r (c.requires.1 (some-open c.if-s-eq0.false)) c.if-id-s.false c.if-s.true
+    rw c.with-then-s.ensures (close-full r (c.requires.1 (some-open c.if-s-eq0.false)) c.if-id-s.false c.if-s.true)
 
 pub seal-requires : goal.seal-requires
 seal-requires c =

@@ -6,7 +6,7 @@ use Rattle.steps.proofs.Works.{drop-none, drop-done}
 use Rattle.session_drop.proofs.drop_sound.Goals as goal
 
 pub returns-then-s-eq0 : goal.returns-then-s-eq0
-returns-then-s-eq0 c = drop-none (held c.read-s.ensures c.tally_of-t.ensures) c.if-s-eq0.true
+returns-then-s-eq0 c = rw c.with.ensures (drop-none (held c.read-s.ensures c.tally_of-t.ensures) c.if-s-eq0.true)
 
 pub innermost-own-requires : goal.innermost-own-requires
 innermost-own-requires c = (words-read c.read-s.ensures, some-open c.if-s-eq0.false)

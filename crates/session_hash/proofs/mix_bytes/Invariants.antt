@@ -1,12 +1,10 @@
--- What is left to mix, two words at a time, and behind them by fours.
-use mathlib.Core.Path.{◌≡◌}
-use Prim.Native.Nat.{◌-◌, ◌/◌, ◌≤◌, ◌<◌}
-use lib.ListN.{length, drop}
+-- What is left to mix, two words at a time.
+use Rattle.std.proofs.Common.{◌≡◌, ◌<◌, ◌/◌, length}
 use Rattle.session_hash.specs.Hash.{hash_limit, two_words, twined, hash_bytes}
 use Rattle.session_hash.proofs.mix_bytes.Given as goal
 
-abbrev pub invariant-loop-i : goal.invariant-loop-i
-invariant-loop-i l = (l.i ≤ length l.s) × (l.h < hash_limit) × (l.g < hash_limit) × (hash_bytes l.s ≡ twined ((length l.s - l.i) / two_words) l.h l.g (drop l.i l.s))
+abbrev pub invariant-loop-w : goal.invariant-loop-w
+invariant-loop-w l = (l.h < hash_limit) × (l.g < hash_limit) × (hash_bytes l.s ≡ twined (length l.left / two_words) l.h l.g l.left)
 
-abbrev pub decreases-loop-i : goal.decreases-loop-i
-decreases-loop-i l = length l.s - l.i
+abbrev pub decreases-loop-w : goal.decreases-loop-w
+decreases-loop-w l = length l.left

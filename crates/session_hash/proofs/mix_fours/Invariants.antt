@@ -1,12 +1,10 @@
--- What is left to mix by fours, and behind them byte by byte.
-use mathlib.Core.Path.{◌≡◌}
-use Prim.Native.Nat.{◌-◌, ◌≤◌, ◌<◌}
-use lib.ListN.{length, drop}
+-- What is left to mix by fours.
+use Rattle.std.proofs.Common.{◌≡◌, ◌<◌, length}
 use Rattle.session_hash.specs.Hash.{hash_limit, mixed, gathered}
 use Rattle.session_hash.proofs.mix_fours.Given as goal
 
-abbrev pub invariant-loop-i : goal.invariant-loop-i
-invariant-loop-i l = (l.i ≤ length l.s) × (l.h < hash_limit) × (mixed l.from (gathered (drop l.at l.s)) ≡ mixed l.h (gathered (drop l.i l.s)))
+abbrev pub invariant-loop-w : goal.invariant-loop-w
+invariant-loop-w l = (l.h < hash_limit) × (mixed l.from (gathered l.s) ≡ mixed l.h (gathered l.left))
 
-abbrev pub decreases-loop-i : goal.decreases-loop-i
-decreases-loop-i l = length l.s - l.i
+abbrev pub decreases-loop-w : goal.decreases-loop-w
+decreases-loop-w l = length l.left

@@ -1,18 +1,14 @@
 -- What is left to mix.
-use mathlib.Core.Path.{refl, sym, ◌∙◌}
-use native.Mathlib.Omega.{arith}
+use Rattle.std.proofs.Common.{arith, refl, sym, ◌∙◌}
 use Rattle.session_hash.proofs.Hashes.{mixed-next, mixed-none}
 use Rattle.session_hash.proofs.mix_words.Goals as goal
 
-pub loop-i-init : goal.loop-i-init
-loop-i-init c = (omega arith, omega arith, refl)
-
-pub loop-i-preserved : goal.loop-i-preserved
-loop-i-preserved c =
-    let l = c.loop-i in
-    (omega arith, omega arith, l.invariant.2 ∙ mixed-next l.h l.i _ (omega arith) ∙ rw (c.mix-h.ensures.0, c.word.ensures.0) refl)
+pub loop-x-preserved : goal.loop-x-preserved
+loop-x-preserved c =
+    let l = c.loop-x in
+    (c.mix-h.ensures.1, l.invariant.1 ∙ mixed-next l.h l.x-index _ (omega arith) ∙ rw (c.mix-h.ensures.0, c.from.ensures) refl)
 
 pub returns : goal.returns
 returns c =
-    let l = c.loop-i in
-    (sym (l.invariant.2 ∙ mixed-none l.h l.i _ (omega arith)), omega arith)
+    let l = c.loop-x in
+    (sym (l.invariant.1 ∙ mixed-none l.h l.x-index _ (omega arith)), l.invariant.0)

@@ -18,7 +18,7 @@ shape_of-records-then-s-eq0 c = refl
 
 pub returns-then-s-eq0 : goal.returns-then-s-eq0
 returns-then-s-eq0 c =
-    link-none (held c.read-s.ensures c.tally_of-t.ensures) _ _ _ c.if-s-eq0.true
+    rw c.with.ensures (link-none (held c.read-s.ensures c.tally_of-t.ensures) _ _ _ c.if-s-eq0.true)
 
 pub made_link-l-requires : goal.made_link-l-requires
 made_link-l-requires c =
@@ -31,7 +31,7 @@ shape_of-records-then-not-slot_ok c = refl
 pub returns-then-not-slot_ok : goal.returns-then-not-slot_ok
 returns-then-not-slot_ok c =
     let h = held c.read-s.ensures c.tally_of-t.ensures in
-    link-field h _ _ _ c.if-s-eq0.false (rw (made-judged c.made_link-l.ensures c.slot_ok.ensures) at (ap not c.if-not-slot_ok.true))
+    rw c.with-then-not-slot_ok.ensures (link-field h _ _ _ c.if-s-eq0.false (rw (made-judged c.made_link-l.ensures c.slot_ok.ensures) at (ap not c.if-not-slot_ok.true)))
 
 pub shape_of-records-then-t-l : goal.shape_of-records-then-t-l
 shape_of-records-then-t-l c = refl
@@ -40,7 +40,7 @@ pub returns-then-t-l : goal.returns-then-t-l
 returns-then-t-l c =
     let h = held c.read-s.ensures c.tally_of-t.ensures in
     let right = rw (made-judged c.made_link-l.ensures c.slot_ok.ensures) at (ap not c.if-not-slot_ok.false) in
-    link-child h _ _ _ c.if-s-eq0.false right (rw c.made_link-l.ensures.child_is at c.if-t-l.true)
+    rw c.with-then-t-l.ensures (link-child h _ _ _ c.if-s-eq0.false right (rw c.made_link-l.ensures.child_is at c.if-t-l.true))
 
 pub shape_of-records-then-s-t : goal.shape_of-records-then-s-t
 shape_of-records-then-s-t c = refl
@@ -49,7 +49,7 @@ pub returns-then-s-t : goal.returns-then-s-t
 returns-then-s-t c =
     let h = held c.read-s.ensures c.tally_of-t.ensures in
     let right = rw (made-judged c.made_link-l.ensures c.slot_ok.ensures) at (ap not c.if-not-slot_ok.false) in
-    link-full h _ _ _ c.if-s-eq0.false right (rw c.made_link-l.ensures.child_is at c.if-t-l.false) c.if-s-t.true
+    rw c.with-then-s-t.ensures (link-full h _ _ _ c.if-s-eq0.false right (rw c.made_link-l.ensures.child_is at c.if-t-l.false) c.if-s-t.true)
 
 pub overflow_sub-store : goal.overflow_sub-store
 overflow_sub-store c =
@@ -63,7 +63,7 @@ pub returns-then-store-t : goal.returns-then-store-t
 returns-then-store-t c =
     let h = held c.read-s.ensures c.tally_of-t.ensures in
     let right = rw (made-judged c.made_link-l.ensures c.slot_ok.ensures) at (ap not c.if-not-slot_ok.false) in
-    link-room h _ _ _ c.if-s-eq0.false right (rw c.made_link-l.ensures.child_is at c.if-t-l.false) c.if-s-t.false (rw c.made_link-l.ensures.width_is at c.if-store-t.true)
+    rw c.with-then-store-t.ensures (link-room h _ _ _ c.if-s-eq0.false right (rw c.made_link-l.ensures.child_is at c.if-t-l.false) c.if-s-t.false (rw c.made_link-l.ensures.width_is at c.if-store-t.true))
 
 pub append_link-requires : goal.append_link-requires
 append_link-requires c =

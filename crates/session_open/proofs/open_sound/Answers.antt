@@ -15,7 +15,7 @@ shape_of-records-then-d-ge-MOST_OPEN c = refl
 
 pub returns-then-d-ge-MOST_OPEN : goal.returns-then-d-ge-MOST_OPEN
 returns-then-d-ge-MOST_OPEN c =
-    open_full (held c.read-s.ensures c.tally_of-t.ensures) c.if-d-ge-MOST_OPEN.true
+    rw c.with.ensures (open_full (held c.read-s.ensures c.tally_of-t.ensures) c.if-d-ge-MOST_OPEN.true)
 
 pub open-requires : goal.open-requires
 open-requires c =

@@ -17,7 +17,7 @@ shape_of-records-then-d-eq0 c = refl
 
 pub returns-then-d-eq0 : goal.returns-then-d-eq0
 returns-then-d-eq0 c =
-    put-none (held c.read-s.ensures c.tally_of-t.ensures) _ c.if-d-eq0.true
+    rw c.with.ensures (put-none (held c.read-s.ensures c.tally_of-t.ensures) _ c.if-d-eq0.true)
 
 pub overflow_sub-store : goal.overflow_sub-store
 overflow_sub-store c =
@@ -31,7 +31,7 @@ shape_of-records-then-store-t c = refl
 
 pub returns-then-store-t : goal.returns-then-store-t
 returns-then-store-t c =
-    put_full (held c.read-s.ensures c.tally_of-t.ensures) _ c.if-d-eq0.false c.if-store-t.true
+    rw c.with-then-store-t.ensures (put_full (held c.read-s.ensures c.tally_of-t.ensures) _ c.if-d-eq0.false c.if-store-t.true)
 
 pub copy-requires : goal.copy-requires
 copy-requires c =

@@ -1,13 +1,15 @@
 -- Moved up to end at `low`, then what they left cleared: the rest is zero already.
-use mathlib.Core.Path.{◌≡◌}
-use Prim.Native.Nat.{◌+◌, ◌-◌}
-use native.Mathlib.Omega.{arith}
+use Rattle.std.proofs.Common.{◌+◌, ◌-◌, ◌≡◌, arith, ◌∙◌}
+use Rattle.memory.proofs.Writes.{cleared-over, moved-over}
 use Rattle.session_seal.proofs.Sealed.{clear-left}
 use Rattle.session_seal.proofs.seal_bytes.Goals as goal
 
 pub returns : goal.returns
 returns c =
     let a = c.args in
+    let r = c.requires in
     let n : a.from + (a.top - a.from) ≡ a.top = omega arith in
-    rw (c.clear.ensures, c.lesser.ensures, c.move_up.ensures, n)
-    (clear-left a.from a.top a.low _ c.requires.0 c.requires.1 c.requires.2 c.requires.3)
+    let moved = c.move_up.ensures ∙ moved-over a.from a.store.now (a.low - (a.top - a.from)) (a.top - a.from) (omega arith) in
+    c.clear.ensures
+    ∙ cleared-over a.from c.move_up.new.s c.min.result (omega arith)
+    ∙ rw (c.min.ensures, moved, n) (clear-left a.from a.top a.low _ r.0 r.1 r.2 r.3)

@@ -1,5 +1,7 @@
 -- The moves and stores are those of the contract, in its order.
 use native.Mathlib.Omega.{arith}
+use mathlib.Core.Path.{◌∙◌}
+use Rattle.memory.proofs.Writes.{moved-over}
 use Rattle.session_seal.proofs.Sealed.{seal-done}
 use Rattle.session_seal.proofs.seal_words.Goals as goal
 
@@ -12,4 +14,5 @@ set_word-requires-4 c = omega (arith, c.requires.0)
 pub returns : goal.returns
 returns c =
     let p = c.requires in
-    rw (c.set_word-4.ensures, c.set_word-3.ensures, c.set_word-2.ensures, c.set_word.ensures, c.move_up.ensures) (seal-done p.0)
+    let moved = c.move_up.ensures ∙ moved-over _ c.args.records.now _ _ (omega (arith, p.0)) in
+    rw (c.set_word-4.ensures, c.set_word-3.ensures, c.set_word-2.ensures, c.set_word.ensures, moved) (seal-done p.0)

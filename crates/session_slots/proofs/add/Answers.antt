@@ -1,39 +1,22 @@
--- The slots one by one, up to the first free one.
-use mathlib.Core.Path.{refl, sym, ap, ◌∙◌}
-use Prim.Native.Nat.{◌-◌}
-use native.Mathlib.Nat.{add-zero}
-use native.Mathlib.Omega.{arith}
-use lib.ListN.{length, length-set}
+-- The first free slot, as `position` finds it.
+use Rattle.std.proofs.Common.{◌+◌, rules, tests, arith, eqb, sym}
+use Rattle.std.proofs.lemmas.Iterator.{YieldsList-from_slice}
+use Rattle.std.proofs.lemmas.Iterator.Search.{position_from_yields_List}
+use Rattle.lists.specs.Lists.{part}
 use Rattle.session_slots.specs.Slots.{probes}
-use Rattle.session_slots.proofs.Places.{added-free, added_next, added_none}
+use Rattle.session_slots.proofs.Places.{added-found, added-full}
 use Rattle.session_slots.proofs.add.Goals as goal
 
-pub loop-e-init : goal.loop-e-init
-loop-e-init c = (refl, rw (add-zero, c.slot_of-at.ensures.0) refl)
+pub returns-in-Some : goal.returns-in-Some
+returns-in-Some c =
+    let at = c.slot_of-at.result in
+    let m = c.args.table.now in
+    let found = position_from_yields_List (λ x. eqb x 0) _ _ c.position.result c.position.ensures.ran (YieldsList-from_slice (part at (at + probes) m) cc) (λ x b q k. search (rules, tests)) in
+    sym (rw (← c.slot_of-at.ensures.0) (added-found c.args.id m probes at (omega arith) found c.in-Some.is))
 
-pub bounds-table-at : goal.bounds-table-at
-bounds-table-at c = omega (arith, ap length c.loop-e.invariant.0)
-
-pub bounds-table-at-then-table-at-eq0 : goal.bounds-table-at-then-table-at-eq0
-bounds-table-at-then-table-at-eq0 c = omega (arith, ap length c.loop-e.invariant.0)
-
-pub shape_of-table-then-table-at-eq0 : goal.shape_of-table-then-table-at-eq0
-shape_of-table-then-table-at-eq0 c = simp length-set (ap length c.loop-e.invariant.0)
-
-pub returns-then-table-at-eq0 : goal.returns-then-table-at-eq0
-returns-then-table-at-eq0 c =
-    let l = c.loop-e in
-    sym (l.invariant.1 ∙ added-free _ _ _ (probes - l.e) (omega (arith, c.loop-e-test.true)) c.if-table-at-eq0.true)
-
-pub loop-e-preserved : goal.loop-e-preserved
-loop-e-preserved c =
-    let l = c.loop-e in
-    (l.invariant.0, l.invariant.1 ∙ added_next probes _ _ l.e _ c.loop-e-test.true c.if-table-at-eq0.false)
-
-pub shape_of-table : goal.shape_of-table
-shape_of-table c = ap length c.loop-e.invariant.0
-
-pub returns : goal.returns
-returns c =
-    let l = c.loop-e in
-    sym (l.invariant.1 ∙ added_none _ _ _ (probes - l.e) (omega (arith, c.loop-e-test.false)))
+pub returns-in_default : goal.returns-in_default
+returns-in_default c =
+    let at = c.slot_of-at.result in
+    let m = c.args.table.now in
+    let found = position_from_yields_List (λ x. eqb x 0) _ _ c.position.result c.position.ensures.ran (YieldsList-from_slice (part at (at + probes) m) cc) (λ x b q k. search (rules, tests)) in
+    sym (rw (← c.slot_of-at.ensures.0) (added-full c.args.id m probes at (omega arith) found c.in_default.is))

@@ -11,6 +11,3 @@ abbrev pub invariant-loop-i : goal.invariant-loop-i
 invariant-loop-i l =
     let right = for_all (λ k. closed_ok k (closed_at l.store l.records k)) in
     (l.i ≤ closed_count l.records) × (right (closed_count l.records) ≡ right l.i)
-
-abbrev pub decreases-loop-i : goal.decreases-loop-i
-decreases-loop-i l = l.i

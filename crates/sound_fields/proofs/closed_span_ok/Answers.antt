@@ -10,18 +10,18 @@ use Rattle.layout.proofs.FieldTests.{fields-slots}
 use Rattle.sound_fields.proofs.Hopes.{closed-not, closed-rest}
 use Rattle.sound_fields.proofs.closed_span_ok.Goals as goal
 
-pub returns-then-not-span_ok : goal.returns-then-not-span_ok
-returns-then-not-span_ok c = closed-not _ _ (sym c.span_ok.ensures ∙ c.if-not-span_ok.true)
+pub returns-else-span_ok : goal.returns-else-span_ok
+returns-else-span_ok c = c.if-span_ok.false ∙ closed-not _ _ (sym c.span_ok.ensures ∙ c.if-span_ok.false)
 
 pub span_hopeless-requires : goal.span_hopeless-requires
 span_hopeless-requires c =
     let pre = c.requires in
-    let right = sym c.span_ok.ensures ∙ c.if-not-span_ok.false in
+    let right = sym c.span_ok.ensures ∙ c.if-span_ok.true in
     (pre.0, own-head pre.1, pre.2, fields-slots _ _ _ _ right)
 
-pub returns : goal.returns
-returns c =
-    let right = sym c.span_ok.ensures ∙ c.if-not-span_ok.false in
+pub returns-then-span_ok : goal.returns-then-span_ok
+returns-then-span_ok c =
+    let right = sym c.span_ok.ensures ∙ c.if-span_ok.true in
     let a = c.args in
     let size = length_part a.s.from a.s.to a.store.now (omega (arith, c.requires)) in
     let slots = slots_of (links_from a.records.now a.s.first a.s.last) in

@@ -11,6 +11,3 @@ abbrev pub invariant-loop-d : goal.invariant-loop-d
 invariant-loop-d l =
     let right = for_all (λ k. object_ok (closed_count l.records) (open_at l.store l.records k)) in
     (l.d ≤ open_depth l.records) × (right (open_depth l.records) ≡ right l.d)
-
-abbrev pub decreases-loop-d : goal.decreases-loop-d
-decreases-loop-d l = l.d

@@ -10,9 +10,9 @@ use Rattle.layout.proofs.FieldTests.{field-bytes}
 use Rattle.sound_object.proofs.Ends.{width-least}
 use Rattle.sound_object.proofs.field_ok.Goals as goal
 
-pub returns-then-at-from : goal.returns-then-at-from
+pub returns-then-l-from : goal.returns-then-l-from
 unfolding field_tests
-returns-then-at-from c = sym (holds_not _ 0 (lt-leb _ _ c.if-at-from.true))
+returns-then-l-from c = sym (holds_not _ 0 (lt-leb _ _ c.if-l-from.true))
 
 pub returns-then-not-slot_ok : goal.returns-then-not-slot_ok
 unfolding field_tests
@@ -22,9 +22,9 @@ pub returns-then-bytes-end : goal.returns-then-bytes-end
 unfolding field_tests
 returns-then-bytes-end c = sym (holds_not _ 2 (lt-leb _ _ c.if-bytes-end.true))
 
-pub returns-then-kids-child : goal.returns-then-kids-child
+pub returns-then-kids-l : goal.returns-then-kids-l
 unfolding field_tests
-returns-then-kids-child c = sym (holds_not _ 3 (le-ltb _ _ c.if-kids-child.true))
+returns-then-kids-l c = sym (holds_not _ 3 (le-ltb _ _ c.if-kids-l.true))
 
 pub field_zero-requires : goal.field_zero-requires
 field_zero-requires c =
@@ -37,4 +37,4 @@ pub returns : goal.returns
 returns c =
     let right = sym c.slot_ok.ensures ∙ c.if-not-slot_ok.false in
     c.field_zero.ensures
-    ∙ field-bytes _ _ _ _ c.if-at-from.false right c.if-bytes-end.false c.if-kids-child.false
+    ∙ field-bytes _ _ _ _ c.if-l-from.false right c.if-bytes-end.false c.if-kids-l.false

@@ -1,20 +1,11 @@
--- By the hashes, then by the runs.
-use mathlib.Core.Path.{sym, ◌∙◌}
-use Rattle.session_find.proofs.Looks.{closed-runs, same_runs}
+-- By the hashes, then by the objects.
+use Rattle.std.proofs.Common.{sym, ◌∙◌}
+use borrow.Author.Tests.{ne_eqb}
 use Rattle.session_index.proofs.Walks.{other-hash}
 use Rattle.session_index.proofs.look.equals.Goals as goal
 
-pub returns-then-g-h : goal.returns-then-g-h
-returns-then-g-h c = let p = c.requires in sym (other-hash _ _ (λ e. c.if-g-h.true (p.closed_hash ∙ e ∙ sym p.hash_is)))
+pub equals_closed-requires : goal.equals_closed-requires
+equals_closed-requires c = let p = c.requires in (rw p.ground.closed_is at p.ground, p.inside)
 
-pub same_runs-requires : goal.same_runs-requires
-same_runs-requires c =
-    let g = c.requires.ground in
-    let o = closed-runs g c.runs_of.ensures c.closed_span.ensures in
-    (g.inner_runs.bytes_in, g.inner_runs.words_in, o.bytes_in, o.words_in)
-
-pub returns : goal.returns
-returns c =
-    let g = c.requires.ground in
-    let o = closed-runs g c.runs_of.ensures c.closed_span.ensures in
-    c.same_runs.ensures ∙ sym (same_runs g.inner_runs o)
+pub returns-else-g-h : goal.returns-else-g-h
+returns-else-g-h c = let p = c.requires in ne_eqb _ _ c.if-g-h.false ∙ sym (other-hash _ _ (λ e. c.if-g-h.false (p.closed_hash ∙ e ∙ sym p.hash_is)))

@@ -1,5 +1,7 @@
 -- The words of the buckets cleared, then one closed object more at each turn.
-use mathlib.Core.Path.{refl}
+use mathlib.Core.Path.{refl, ◌∙◌}
+use Rattle.std.proofs.Common.{zero-le}
+use Rattle.memory.proofs.Writes.{cleared-over}
 use native.Mathlib.Omega.{arith}
 use borrow.Author.Rules.{rules}
 use Rattle.layout.proofs.Facts.{words-read}
@@ -8,7 +10,10 @@ use Rattle.session_index.proofs.Making.{making-none, making-room, making-next, m
 use Rattle.session_index.proofs.look.make.Goals as goal
 
 pub loop-i-init : goal.loop-i-init
-loop-i-init c = let p = c.requires in (refl, rw c.clear.ensures (making-none p.0 _ _ p.1 p.2))
+loop-i-init c =
+    let p = c.requires in
+    let cleared = c.clear.ensures ∙ cleared-over 0 c.args.index.now _ zero-le in
+    (refl, rw cleared (making-none p.0 _ _ p.1 p.2))
 
 pub closed_span-requires : goal.closed_span-requires
 closed_span-requires c =

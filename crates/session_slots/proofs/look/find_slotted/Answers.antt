@@ -1,22 +1,25 @@
 -- The slots one by one: those passed do not hold the answer. Behind the last of them, the look through all.
-use mathlib.Core.Path.{refl, sym, ap, ◌∙◌}
-use Prim.Native.Nat.{◌+◌}
+use mathlib.Core.Path.{sym, ap, ◌∙◌}
+use Prim.Native.Nat.{◌+◌, ◌<◌}
+use Rattle.lists.proofs.Parts.{get_or-part}
+use Rattle.lists.proofs.Runs.{length_part}
 use native.Mathlib.Omega.{arith}
 use Rattle.session_find.proofs.Looks.{ground}
-use Rattle.session_slots.specs.Slots.{slot_from}
+use Rattle.session_slots.specs.Slots.{probes, slot_from}
 use Rattle.session_slots.proofs.Passes.{passing-none, passing-next, passing-free, holding-few, holding-equal}
 use Rattle.session_slots.proofs.look.find_slotted.Goals as goal
 
-pub loop-e-init : goal.loop-e-init
-loop-e-init c = passing-none _ _ _
-
-pub overflow_cast-x : goal.overflow_cast-x
-overflow_cast-x c = omega (arith, c.shared_slice_known-in-loop-e-1.given (c.slot_of-at.result + c.loop-e.e))
+pub loop-slot-init : goal.loop-slot-init
+loop-slot-init c = passing-none _ _ _
 
 pub returns-then-x-eq0 : goal.returns-then-x-eq0
 returns-then-x-eq0 c =
     let p = c.requires in
-    p.read.closed_is ∙ passing-free _ _ _ p.slotted c.loop-e.invariant c.loop-e-test.true (c.slot_of-at.ensures.0 ∙ ap slot_from p.hash_is) c.if-x-eq0.true
+    let at = c.slot_of-at.result in
+    let e = c.loop-slot.slot-index in
+    let h : e < probes = omega (arith, c.loop-slot-test.true, length_part at (at + probes) c.args.table.now (omega (arith, p.slotted.long))) in
+    let read = c.from-x.ensures ∙ get_or-part at (at + probes) e c.args.table.now (omega arith) in
+    p.read.closed_is ∙ passing-free _ _ _ p.slotted c.loop-slot.invariant h (c.slot_of-at.ensures.0 ∙ ap slot_from p.hash_is) (sym read ∙ c.if-x-eq0.true)
 
 pub holds_equal-requires : goal.holds_equal-requires
 holds_equal-requires c =
@@ -31,8 +34,14 @@ overflow_cast-result-then-holds_equal c =
 pub returns-then-holds_equal : goal.returns-then-holds_equal
 returns-then-holds_equal c = holding-equal _ _ _ c.requires.slotted (omega (arith, c.if-x-eq0.false)) (sym c.holds_equal.ensures ∙ c.if-holds_equal.true)
 
-pub loop-e-preserved : goal.loop-e-preserved
-loop-e-preserved c = passing-next _ _ _ c.loop-e.invariant (c.slot_of-at.ensures.0 ∙ ap slot_from c.requires.hash_is) refl (sym c.holds_equal.ensures ∙ c.if-holds_equal.false)
+pub loop-slot-preserved : goal.loop-slot-preserved
+loop-slot-preserved c =
+    let p = c.requires in
+    let at = c.slot_of-at.result in
+    let e = c.loop-slot.slot-index in
+    let h : e < probes = omega (arith, c.loop-slot-test.true, length_part at (at + probes) c.args.table.now (omega (arith, p.slotted.long))) in
+    let read = c.from-x.ensures ∙ get_or-part at (at + probes) e c.args.table.now (omega arith) in
+    passing-next _ _ _ c.loop-slot.invariant (c.slot_of-at.ensures.0 ∙ ap slot_from p.hash_is) read (sym c.holds_equal.ensures ∙ c.if-holds_equal.false)
 
 pub find-requires : goal.find-requires
 find-requires c = let p = c.requires in (p.read, p.lies)

@@ -1,12 +1,11 @@
 -- The links are looked at where they lie.
-use borrow.Author.Rules.{rules}
 use Rattle.layout.proofs.Links.{link-words}
 use Rattle.sound_fields.proofs.hopeless.span_hopeless.Goals as goal
 
 pub any_hopeless-requires : goal.any_hopeless-requires
 any_hopeless-requires c =
     let pre = c.requires in
-    (search rules, rw (pre.0, ← link-words _ _ _ pre.2.link_inside) pre.3)
+    rw (pre.0, ← link-words _ _ _ pre.2.link_inside) pre.3
 
 pub returns : goal.returns
 returns c =
