@@ -9,7 +9,7 @@ use lib.Seq.{get_or-set_same, get_or-set_other}
 use Rattle.regions.specs.Region.{Kept, Copying}
 use Rattle.regions.proofs.Laws.{region-length, region-at, region-in}
 use Rattle.regions.proofs.Bounds.{ceiling-at, ceiling-each}
-use Rattle.regions.proofs.Frame.{kept-all, kept_then, kept_set, kept_less, kept_above}
+use Rattle.regions.proofs.Frame.{kept_then, kept_set, kept_less, kept_above}
 use Rattle.model_orders.specs.Space.{space_weight}
 use Rattle.model_orders.proofs.Bags.{Same, same, other, same_or}
 use Rattle.work.specs.Views.{keys_in, key_in, distances_in, spaces_in}
@@ -18,34 +18,24 @@ use Rattle.order_graph.specs.Graph.{most_nodes}
 use Rattle.order_survey.specs.Survey.{far_away}
 use Rattle.order_ready.specs.Ready.{most_key}
 use Rattle.order.specs.Try.{key_by, Trying, Keying, Keyed}
-use Rattle.order.specs.declared.By.TheVariants as By
+use Rattle.order.specs.declared.By.{By}
 
-pub trying-keys : {a : Areas} {n root : ℕ} {w : List ℕ} → Trying a n root By.Space w → Keying a w
-trying-keys t =
-    record {
-      apart = t.surveyed.graph.apart;
-      long = t.surveyed.graph.long;
-      near = t.asked.0;
-      small = t.asked.1;
-    }
-
-pub keys-distances : {a : Areas} {n root : ℕ} {w w' : List ℕ} → Trying a n root By.Distance w → Copying a.distances a.keys a.nodes a.nodes w w' → Keyed a By.Distance w w'
-keys-distances {a} t f =
-    record {
+pub keys-distances : {a : Areas} {n root : ℕ} {by : By} {w w' : List ℕ} → by ≡ By.Distance → Trying a n root by w → Copying a.distances a.keys a.nodes a.nodes w w'
+    → Keyed a by w w'
+keys-distances {a} e t f =
+    let near = rw e at t.asked in
+    rw e
+    (record {
       kept = kept_less f.kept a.keys a.waiting (omega arith) (omega (arith, t.surveyed.graph.apart));
       keys = λ i. rw f.done;
-      small = rw f.done (omega (arith, t.asked));
-    }
+      small = rw f.done (omega (arith, near));
+    })
 
 -- ---- i nodes have their keys
 
 pub record Weighs (a : Areas) (i : ℕ) (w₀ w : List ℕ) : Type 0 where
-  pub some : i ≤ a.nodes
   pub kept : Kept a.keys a.waiting w₀ w
   pub done : (j : ℕ) → j < i → key_in a w j ≡ key_by By.Space a w₀ j
-
-pub weighs-none : (a : Areas) (w : List ℕ) → Weighs a 0 w w
-weighs-none a w = record { some = omega arith; kept = kept-all; done = λ j h. absurd (omega arith) }
 
 module _ {a : Areas} {i : ℕ} {w₀ w : List ℕ} (s : Keying a w₀) (f : Weighs a i w₀ w) where
   module _ (h : i < a.nodes) where
@@ -77,7 +67,6 @@ module _ {a : Areas} {i : ℕ} {w₀ w : List ℕ} (s : Keying a w₀) (f : Weig
     weighs-next =
         let z = region-in a.keys a.nodes w i key h in
         record {
-          some = omega arith;
           kept = kept_then f.kept (kept_set a.keys a.waiting w (a.keys + i) key (omega arith) (omega (arith, s.apart)));
           done = λ j k. rw z (go j k (same_or j i));
         }

@@ -14,7 +14,7 @@ use Rattle.model_orders.specs.Graph.{Graph, kids_of, Closed, Once}
 use Rattle.model_orders.specs.Table.{place_of, offset, unfit_links, unfit_from, unfit}
 use Rattle.model_orders.proofs.Bags.{one_same}
 use Rattle.order_fit.specs.Fit.{places_from, or_else, offset_by, look_links, look}
-use Rattle.order_fit.specs.declared.Look.TheVariants.{Over}
+use Rattle.std.specs.Prelude.{Err}
 use Rattle.order.specs.Try.{look_of}
 use Rattle.order.proofs.Placed.{places-placed}
 
@@ -35,7 +35,7 @@ module _ (ps : List ℕ) (place : ℕ → ℕ) (o : List ℕ) (agree : (i : ℕ)
       over : Overflow
       over = record { parent = record { 0 = x }; field = l.slot.at; needed = offset place x l }
 
-      go : (b : Bool) → look_links ps x ls ≡ look_of (unfit_links place x ls) → pick b (look_links ps x ls) (Over over) ≡ look_of (pick b (unfit_links place x ls) (over ∷ unfit_links place x ls))
+      go : (b : Bool) → look_links ps x ls ≡ look_of (unfit_links place x ls) → pick b (look_links ps x ls) (Err over) ≡ look_of (pick b (unfit_links place x ls) (over ∷ unfit_links place x ls))
       go true e = e
       go false e = refl
 

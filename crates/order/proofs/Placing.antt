@@ -12,7 +12,6 @@ use Rattle.order_place.specs.Place.{same_key, Starting, OrderFound}
 use Rattle.order_place.proofs.Starting.{starting-kept, found-order}
 use Rattle.order.specs.Try.{Trying, Keyed, Ordered}
 use Rattle.order.specs.declared.By.{By}
-use Rattle.order.specs.declared.By.TheVariants as By
 
 module _ {a : Areas} {n root : ℕ} {by : By} {w : List ℕ} (t : Trying a n root by w) where
   pub trying-starting : Starting a n root w
@@ -33,14 +32,7 @@ module _ {a : Areas} {n root : ℕ} {by : By} {w : List ℕ} (t : Trying a n roo
               ∙ ap (λ (key : ℕ → ℕ). order_of key (graph_on a n w) nodes root) (fun_ext k.keys);
         }
 
-pub turn-order : {a : Areas} {n root r : ℕ} {w w₁ : List ℕ} → Trying a n root By.Readiness w → OrderFound a n root same_key r w w₁ → Ordered a n root By.Readiness r w w₁
-turn-order {a} t o =
-    record { kept = kept_less o.kept a.keys a.incoming (omega (arith, t.surveyed.graph.apart)) (omega arith); nodes = o.nodes; order = o.order }
-
--- ---- by what is known of the one chosen
-
-pub trying-by : {a : Areas} {n root : ℕ} {by : By} {w : List ℕ} (it : By) → by ≡ it → Trying a n root by w → Trying a n root it w
-trying-by it e t = rw e at t
-
-pub ordered-by : {a : Areas} {n root r : ℕ} {by it : By} {w w' : List ℕ} → by ≡ it → Ordered a n root it r w w' → Ordered a n root by r w w'
-ordered-by e o = rw e o
+pub turn-order : {a : Areas} {n root r : ℕ} {by : By} {w w₁ : List ℕ} → by ≡ By.Readiness → Trying a n root by w → OrderFound a n root same_key r w w₁ → Ordered a n root by r w w₁
+turn-order {a} e t o =
+    rw e
+    (record { kept = kept_less o.kept a.keys a.incoming (omega (arith, t.surveyed.graph.apart)) (omega arith); nodes = o.nodes; order = o.order })

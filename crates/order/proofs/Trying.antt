@@ -14,8 +14,7 @@ use Rattle.order_graph.specs.Graph.{graph_in, graph_on}
 use Rattle.order_graph.proofs.Links.{front_kept, stands-kept}
 use Rattle.order_graph.proofs.Nodes.{ceiling-in}
 use Rattle.order_survey.specs.Survey.{Surveyed}
-use Rattle.order_fit.specs.Fit.{places_from, look, Placing, PlacedAt}
-use Rattle.order_fit.specs.declared.Look.{Look}
+use Rattle.order_fit.specs.Fit.{Look, places_from, look, Placing, PlacedAt}
 use Rattle.order.specs.Try.{Trying, Ordered, Tried}
 use Rattle.order.specs.declared.By.{By}
 use Rattle.order.proofs.Orders.{ordered-sorted}

@@ -1,5 +1,5 @@
 -- docs/RULES.md, section 7, in the work memory: one order tried: its keys, the order, its places, and the first link that does not fit.
-use Rattle.std.specs.Prelude.{ℕ, ◌+◌, ◌*◌, ◌≤◌, ◌<◌, ◌≡◌, List, [], ◌∷◌, length, get_or}
+use Rattle.std.specs.Prelude.{ℕ, ◌+◌, ◌*◌, ◌≤◌, ◌<◌, ◌≡◌, List, [], ◌∷◌, length, get_or, Ok, Err}
 use Rattle.regions.specs.Region.{ceiling, Kept}
 use Rattle.answer.specs.declared.Overflow.{Overflow}
 use Rattle.model_orders.specs.Bag.{count}
@@ -13,10 +13,8 @@ use Rattle.order_graph.specs.Graph.{most_nodes, graph_on, Counted}
 use Rattle.order_survey.specs.Survey.{far_away, Surveyed}
 use Rattle.order_ready.specs.Ready.{SmallKeys}
 use Rattle.order_place.specs.Place.{OrderIds}
-use Rattle.order_fit.specs.declared.Look.{Look}
-use Rattle.order_fit.specs.declared.Look.TheVariants.{Fits, Over}
+use Rattle.order_fit.specs.Fit.{Look}
 use Rattle.order.specs.declared.By.{By}
-use Rattle.order.specs.declared.By.TheVariants as By
 
 -- ---- the orders
 
@@ -28,8 +26,8 @@ key_by By.Space a w i = get_or (distances_in a w) i 0 + get_or (spaces_in a w) i
 
 -- the first of the links that do not fit
 abbrev pub look_of : List Overflow → Look
-look_of [] = Fits
-look_of (u ∷ us) = Over u
+look_of [] = Ok tt
+look_of (u ∷ us) = Err u
 
 -- ---- what an order asks: the survey, and that what it goes by leaves room for a key
 

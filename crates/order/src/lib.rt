@@ -6,7 +6,8 @@
 ghost use Rattle.order.specs.Try.{Keying, Keyed, Trying, Ordered, Tried};
 ghost use Rattle.order.specs.declared.By.TheVariants as By;
 
-use order_fit::{Look, look_all, set_places};
+use answer::Overflow;
+use order_fit::{look_all, set_places};
 use order_place::{place_by_keys, place_in_turn};
 use regions::copy;
 use work::Areas;
@@ -25,7 +26,7 @@ pub enum By {
 #[derive(Clone, Copy)]
 pub struct Try {
     pub placed: usize,
-    pub look: Look,
+    pub look: Result<(), Overflow>,
 }
 
 // The keys of the order by spaces.
@@ -33,42 +34,22 @@ fn weigh_spaces(work: &mut [u64], a: Areas)
     requires { Keying a work.old }
     ensures { Keyed a By.Space work.old work.new }
 {
-    let nodes = a.nodes;
-    let mut i = 0;
-    while i < nodes {
-        let d = a.distances + i;
-        let s = a.spaces + i;
-        let k = a.keys + i;
-        work[k] = work[d] + work[s] * SPACE_WEIGHT;
-        i += 1;
+    for i in 0..a.nodes {
+        work[a.keys + i] = work[a.distances + i] + work[a.spaces + i] * SPACE_WEIGHT;
     }
 }
 
-fn place_by_distance(work: &mut [u64], a: Areas, n: usize, root: usize) -> usize
-    requires { Trying a n root By.Distance work.old }
-    ensures { Ordered a n root By.Distance result work.old work.new }
-{
-    copy(work, a.distances, a.keys, a.nodes);
-    place_by_keys(work, a, n, root)
-}
-
-fn place_by_space(work: &mut [u64], a: Areas, n: usize, root: usize) -> usize
-    requires { Trying a n root By.Space work.old }
-    ensures { Ordered a n root By.Space result work.old work.new }
-{
-    weigh_spaces(work, a);
-    place_by_keys(work, a, n, root)
-}
-
+// Places the nodes in the order chosen; the answer is how many.
 fn place(work: &mut [u64], a: Areas, n: usize, root: usize, by: By) -> usize
     requires { Trying a n root by work.old }
     ensures { Ordered a n root by result work.old work.new }
 {
     match by {
-        By::Readiness => place_in_turn(work, a, n, root),
-        By::Distance => place_by_distance(work, a, n, root),
-        By::Space => place_by_space(work, a, n, root),
+        By::Readiness => return place_in_turn(work, a, n, root),
+        By::Distance => copy(work, a.distances, a.keys, a.nodes),
+        By::Space => weigh_spaces(work, a),
     }
+    place_by_keys(work, a, n, root)
 }
 
 pub fn try_order(work: &mut [u64], a: Areas, n: usize, root: usize, by: By) -> Try
@@ -78,8 +59,5 @@ pub fn try_order(work: &mut [u64], a: Areas, n: usize, root: usize, by: By) -> T
     let placed = place(work, a, n, root, by);
     set_places(work, a, n, placed);
     let look = look_all(work, a, n, placed);
-    Try {
-        placed: placed,
-        look: look,
-    }
+    Try { placed, look }
 }

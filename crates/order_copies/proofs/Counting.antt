@@ -49,9 +49,6 @@ module _ {a : Areas} {nodes x : ℕ} {w : List ℕ} (s : CountingCopy a nodes x 
   x-read : get_or w (a.incoming + x) 0 ≡ get_or cs x 0
   x-read = region-at a.incoming a.nodes w x (omega (arith, nodes-in, s.inside))
 
-  pub counting-some : 0 < get_or w (a.incoming + x) 0
-  counting-some = omega (arith, x-read, s.led)
-
   -- one fewer at x
   abbrev w₁ : List ℕ
   w₁ = set w (a.incoming + x) (get_or w (a.incoming + x) 0 - 1)

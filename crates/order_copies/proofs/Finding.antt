@@ -11,7 +11,7 @@ use Rattle.model_orders.specs.Distance.{In, here, there}
 use Rattle.work.specs.Views.{incoming_in}
 use Rattle.work.specs.declared.Areas.{Areas}
 use Rattle.order_graph.specs.Graph.{link_of, link_count, links_after, AtLink, FieldOf}
-use Rattle.order_graph.proofs.Links.{links-in, links-read, links-none}
+use Rattle.order_graph.proofs.Links.{links-read, links-none}
 use Rattle.order_copies.specs.Copy.{FieldAt, AtField, child_in}
 use Rattle.order_copies.specs.Steps.{LinkFound}
 use Rattle.order_copies.proofs.Firsts.{found-child}
@@ -34,9 +34,6 @@ field-later at m ls n s = go s.of
 module _ {a : Areas} {n p at : ℕ} {w : List ℕ} (s : AtField a n p at w) where
   abbrev f : List ℕ
   f = take a.keys w
-
-  pub seeking-none : Seeking a p at 0 w
-  seeking-none = record { left = rw (links-in a n f p s.node.inside) at s.has; earlier = λ t h. absurd (omega arith) }
 
   module _ {t : ℕ} (k : Seeking a p at t w) where
     some : t < link_count a f p

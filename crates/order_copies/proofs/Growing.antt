@@ -1,6 +1,6 @@
 -- A copy appended and one link led to it: the graph is the model's `copied`. Then what stands beside it follows.
 use mathlib.Core.Path.{◌≡◌, sym, ap, ◌∙◌, fun_ext}
-use Prim.Native.Nat.{ℕ, ◌+◌, ◌-◌, ◌≤◌, ◌<◌}
+use Prim.Native.Nat.{ℕ, ◌+◌, ◌≤◌, ◌<◌}
 use mathlib.Core.List.{List}
 use native.Mathlib.Omega.{arith}
 use native.Mathlib.Decide.{dec_le}
@@ -164,9 +164,6 @@ module _ {a : Areas} {n nodes links r p at t : ℕ} {w : List ℕ} (s : CopyingC
 
       noting : Noting a n nodes x w₂
       noting = record { graph = d.graph; inside = inside; base = s.base; copy-room = s.copy-room }
-
-      pub noting-asks : Noting a n nodes l.child w₂
-      noting-asks = rw child-is noting
 
       areas : Apart a
       areas = d.graph.apart

@@ -11,15 +11,12 @@ use Rattle.regions.proofs.Laws.{region-length, region-at, region-in, region-unde
 use Rattle.regions.proofs.Frame.{kept_then, kept_set}
 use Rattle.work.specs.Views.{spaces_in, origins_in, origin_in}
 use Rattle.work.specs.declared.Areas.{Areas}
-use Rattle.order_graph.specs.Graph.{Owned, HasOrigin}
+use Rattle.order_graph.specs.Graph.{Owned}
 use Rattle.order_copies.specs.Steps.{Noting, CopyNoted}
 
 -- ---- a copy noted
 
 module _ {a : Areas} {n nodes x : ℕ} {w : List ℕ} (s : Noting a n nodes x w) where
-  pub noting-asks : HasOrigin a n x w
-  noting-asks = record { apart = s.graph.apart; long = s.graph.long; room = omega (arith, s.inside, s.base, s.copy-room) }
-
   module _ {v : ℕ} (e : v ≡ origin_in a n w x) where
     abbrev w₁ : List ℕ
     w₁ = set w (a.origins + (nodes - n)) v

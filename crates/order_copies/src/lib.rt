@@ -29,8 +29,7 @@ pub fn is_shared(work: &[u64], a: Areas, nodes: usize, p: usize, at: usize) -> b
 {
     let t = find_link(work, a, nodes, p, at);
     let f = field_at(work, a, nodes, p, t);
-    let j = a.incoming + f.child;
-    1 < work[j]
+    1 < work[a.incoming + f.child]
 }
 
 // The copy becomes node `nodes`. r nodes stand in the order.
@@ -56,8 +55,5 @@ pub fn copy_child(
     note_copy(work, a, n, nodes, x);
     count_copy(work, a, nodes, x);
     put_behind(work, a, r, x, nodes);
-    Copied {
-        size: size,
-        links: more,
-    }
+    Copied { size, links: more }
 }

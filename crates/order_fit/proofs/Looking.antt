@@ -1,5 +1,5 @@
 -- The look for the first link that does not fit: one link, and one node, at a time.
-use mathlib.Core.Path.{◌≡◌, refl, ap₂, ◌∙◌}
+use mathlib.Core.Path.{◌≡◌, ap₂, ◌∙◌}
 use Prim.Native.Nat.{ℕ, ◌+◌, ◌-◌, ◌≤◌, ◌<◌}
 use mathlib.Core.List.{List, ◌∷◌}
 use native.Mathlib.Omega.{arith}
@@ -15,10 +15,9 @@ use Rattle.work.specs.declared.Areas.{Areas}
 use Rattle.work.specs.Views.{order_in, places_in}
 use Rattle.order_graph.specs.Graph.{graph_on, links_after, link_count, object_of, link_by, AtNode, FieldOf}
 use Rattle.order_graph.specs.declared.Field.{Field}
-use Rattle.order_graph.proofs.Links.{links-in, links-read, links-none}
-use Rattle.order_fit.specs.Fit.{or_else, offset_by, look_links, look, Placing}
-use Rattle.order_fit.specs.declared.Look.{Look}
-use Rattle.order_fit.specs.declared.Look.TheVariants.{Fits, Over}
+use Rattle.order_graph.proofs.Links.{links-read, links-none}
+use Rattle.order_fit.specs.Fit.{Look, or_else, offset_by, look_links, look, Placing}
+use Rattle.std.specs.Prelude.{Ok, Err}
 use Rattle.order_fit.proofs.Summing.{order-long}
 
 -- two places are read, and the offset is the one less the other and the inner start
@@ -30,7 +29,6 @@ offset_read {a} {n} {i} {w} s f h =
 
 -- t links of node i fit
 pub record Looking (a : Areas) (n i t : ℕ) (w : List ℕ) : Type 0 where
-  pub some : t ≤ link_count a (take a.keys w) i
   pub left : look_links (places_in a w) i ((graph_on a n w).links i) ≡ look_links (places_in a w) i (links_after a (take a.keys w) i t)
 
 module _ {a : Areas} {n i : ℕ} {w : List ℕ} (m : AtNode a n i w) where
@@ -40,9 +38,6 @@ module _ {a : Areas} {n i : ℕ} {w : List ℕ} (m : AtNode a n i w) where
   abbrev places : List ℕ
   places = places_in a w
 
-  pub looking-none : Looking a n i 0 w
-  looking-none = record { some = omega arith; left = rw (links-in a n front i m.inside) }
-
   module _ {t : ℕ} (s : Looking a n i t w) where
     module _ {l : Link} {needed room : ℕ} (h : t < link_count a front i) (r : FieldOf a n front i t l)
         (e : needed ≡ offset_by places i l) (q : room ≡ capacity l.slot.width) where
@@ -50,25 +45,20 @@ module _ {a : Areas} {n i : ℕ} {w : List ℕ} (m : AtNode a n i w) where
       unfolding look_links
       looking-next k =
           record {
-            some = omega arith;
             left = s.left ∙ rw (links-read r h, look_links, ← e, ← q, lt-ltb needed room k);
           }
 
-      pub looking-stop : room ≤ needed → look_links places i ((graph_on a n w).links i) ≡ Over (record { parent = object_of i; field = l.slot.at; needed = needed })
+      pub looking-stop : room ≤ needed → look_links places i ((graph_on a n w).links i) ≡ Err (record { parent = object_of i; field = l.slot.at; needed = needed })
       unfolding look_links
       looking-stop k = s.left ∙ rw (links-read r h, look_links, ← e, ← q, le-ltb needed room k)
 
-    pub looking-all : link_count a front i ≤ t → look_links places i ((graph_on a n w).links i) ≡ Fits
+    pub looking-all : link_count a front i ≤ t → look_links places i ((graph_on a n w).links i) ≡ Ok tt
     unfolding look_links
     looking-all h = s.left ∙ rw (links-none a front i t h, look_links)
 
 -- the links of t nodes fit
 pub record Seeking (a : Areas) (n r t : ℕ) (w : List ℕ) : Type 0 where
-  pub some : t ≤ r
   pub left : look (graph_on a n w) (places_in a w) (order_in a r w) ≡ look (graph_on a n w) (places_in a w) (drop t (order_in a r w))
-
-pub seeking-none : (a : Areas) (n r : ℕ) (w : List ℕ) → Seeking a n r 0 w
-seeking-none a n r w = record { some = omega arith; left = refl }
 
 module _ {a : Areas} {n r t : ℕ} {w : List ℕ} (c : Placing a n r w) (s : Seeking a n r t w) where
   abbrev answer : Look
@@ -81,13 +71,13 @@ module _ {a : Areas} {n r t : ℕ} {w : List ℕ} (c : Placing a n r w) (s : See
         let here : drop t (order_in a r w) ≡ i ∷ drop (t + 1) (order_in a r w) = rw e (drop-first t (order_in a r w) (omega (arith, order-long c))) in
         s.left ∙ rw (here, look, ← l)
 
-    pub seeking-next : u ≡ Fits → Seeking a n r (t + 1) w
-    seeking-next z = record { some = omega arith; left = seeking-one ∙ rw z }
+    pub seeking-next : u ≡ Ok tt → Seeking a n r (t + 1) w
+    seeking-next z = record { left = seeking-one ∙ rw z }
 
-    pub seeking-stop : {o : Overflow} → u ≡ Over o → answer ≡ u
+    pub seeking-stop : {o : Overflow} → u ≡ Err o → answer ≡ Err o
     seeking-stop z = seeking-one ∙ rw z
 
-  pub seeking-all : r ≤ t → answer ≡ Fits
+  pub seeking-all : r ≤ t → answer ≡ Ok tt
   unfolding look
   seeking-all h =
       let m : length (order_in a r w) ≤ t = omega (arith, order-long c) in

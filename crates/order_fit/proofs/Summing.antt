@@ -1,5 +1,5 @@
 -- The turns of the places: one node behind the other.
-use mathlib.Core.Path.{◌≡◌, refl, sym, ap, ◌∙◌}
+use mathlib.Core.Path.{◌≡◌, sym, ap, ◌∙◌}
 use Prim.Native.Nat.{ℕ, ◌+◌, ◌*◌, ◌≤◌, ◌<◌}
 use mathlib.Core.List.{List, [], ◌∷◌}
 use native.Mathlib.Omega.{arith}
@@ -8,7 +8,7 @@ use Rattle.lists.proofs.Runs.{drop-first}
 use Rattle.regions.specs.Region.{Kept}
 use Rattle.regions.proofs.Laws.{region-length, region-at, region-in}
 use Rattle.regions.proofs.Bounds.{ceiling-at}
-use Rattle.regions.proofs.Frame.{kept-all, kept_then, kept_set, kept_less, kept_above, kept_at}
+use Rattle.regions.proofs.Frame.{kept_then, kept_set, kept_less, kept_above, kept_at}
 use Rattle.work.specs.declared.Areas.{Areas}
 use Rattle.work.specs.Views.{order_in, places_in}
 use Rattle.order_graph.specs.Graph.{graph_on, most_size}
@@ -27,15 +27,11 @@ module _ {a : Areas} {n r : ℕ} {w : List ℕ} (c : Placing a n r w) where
 
 -- t nodes have their places, and the next begins at `at`
 pub record Summing (a : Areas) (n r t at : ℕ) (w₀ w : List ℕ) : Type 0 where
-  pub some : t ≤ r
   pub kept : Kept a.places a.order w₀ w
   pub small : at ≤ t * most_size
   pub left :
       places_from (graph_on a n w₀) (order_in a r w₀) 0 (places_in a w₀)
       ≡ places_from (graph_on a n w₀) (drop t (order_in a r w₀)) at (places_in a w)
-
-pub summing-none : (a : Areas) (n r : ℕ) (w : List ℕ) → Summing a n r 0 0 w w
-summing-none a n r w = record { some = omega arith; kept = kept-all; small = omega arith; left = refl }
 
 module _ {a : Areas} {n r t at : ℕ} {w₀ w : List ℕ} (c : Placing a n r w₀) (s : Summing a n r t at w₀ w) where
   order-kept : order_in a r w ≡ order_in a r w₀
@@ -62,7 +58,6 @@ module _ {a : Areas} {n r t at : ℕ} {w₀ w : List ℕ} (c : Placing a n r w�
         let rest : drop t (order_in a r w₀) ≡ i ∷ drop (t + 1) (order_in a r w₀) =
         rw node (drop-first t (order_in a r w₀) (omega (arith, order-long c))) in
         record {
-          some = omega arith;
           kept = kept_then s.kept (kept_set a.places a.order w (a.places + i) at (omega arith) (omega arith));
           small = omega (arith, size-light);
           left =

@@ -1,7 +1,8 @@
 -- docs/RULES.md, 7.5 to 7.8, in the work memory: places in placing order, and the first link that does not fit.
-use Rattle.std.specs.Prelude.{ℕ, ◌+◌, ◌≡◌, List, [], ◌∷◌, get_or, set}
+use Rattle.std.specs.Prelude.{ℕ, ◌+◌, ◌≡◌, List, [], ◌∷◌, get_or, set, Result, Ok, Err}
 use Rattle.regions.specs.Region.{Kept}
 use Rattle.lists.specs.Lists.{pick}
+use Rattle.answer.specs.declared.Overflow.{Overflow}
 use Rattle.big_endian.specs.BigEndian.{fits}
 use Rattle.model_orders.specs.Object.{Link}
 use Rattle.model_orders.specs.Graph.{Graph}
@@ -10,8 +11,6 @@ use Rattle.work.specs.declared.Areas.{Areas}
 use Rattle.order_graph.specs.Graph.{Stands, graph_on, object_of}
 use Rattle.work.specs.Views.{order_in, places_in}
 use Rattle.order_place.specs.Place.{OrderIds}
-use Rattle.order_fit.specs.declared.Look.{Look}
-use Rattle.order_fit.specs.declared.Look.TheVariants.{Fits, Over}
 
 -- one after the other from `at` on
 unfoldable pub places_from : Graph → List ℕ → ℕ → List ℕ → List ℕ
@@ -26,19 +25,23 @@ pub record PlacedAt (a : Areas) (n r : ℕ) (w w' : List ℕ) : Type 0 where
   pub kept : Kept a.places a.order w w'
   pub places : places_in a w' ≡ places_from (graph_on a n w) (order_in a r w) 0 (places_in a w)
 
+-- what a look through links comes to: all fit, or the first that does not
+abbrev pub Look : Type 0
+Look = Result (Unit {0}) Overflow
+
 abbrev pub or_else : Look → Look → Look
-or_else Fits b = b
-or_else (Over u) b = Over u
+or_else (Ok _) b = b
+or_else (Err u) b = Err u
 
 -- the offset of a link of x, by the places
 abbrev pub offset_by : List ℕ → ℕ → Link → ℕ
 offset_by ps x l = offset (λ i. get_or ps i 0) x l
 
 unfoldable pub look_links : List ℕ → ℕ → List Link → Look
-look_links ps x [] = Fits
+look_links ps x [] = Ok tt
 look_links ps x (l ∷ ls) =
-    pick (fits l.slot.width (offset_by ps x l)) (look_links ps x ls) (Over (record { parent = object_of x; field = l.slot.at; needed = offset_by ps x l }))
+    pick (fits l.slot.width (offset_by ps x l)) (look_links ps x ls) (Err (record { parent = object_of x; field = l.slot.at; needed = offset_by ps x l }))
 
 unfoldable pub look : Graph → List ℕ → List ℕ → Look
-look g ps [] = Fits
+look g ps [] = Ok tt
 look g ps (x ∷ l) = or_else (look_links ps x (g.links x)) (look g ps l)

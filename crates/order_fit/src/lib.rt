@@ -11,19 +11,12 @@ use big_endian::capacity;
 use order_graph::{Field, field_at, link_count, object_of};
 use work::Areas;
 
-#[derive(Clone, Copy)]
-pub enum Look {
-    Fits,
-    Over(Overflow),
-}
-
 // The node that is placed at number t of the r.
 pub fn node_at(work: &[u64], a: Areas, n: usize, r: usize, t: usize) -> usize
     requires { (t < r) × Placing a n r work.now }
     ensures { (result < n) × (result ≡ get_or (order_in a r work.now) t 0) }
 {
-    let order = a.order;
-    work[order + t] as usize
+    work[a.order + t] as usize
 }
 
 // The places of the r placed nodes.
@@ -31,23 +24,13 @@ pub fn set_places(work: &mut [u64], a: Areas, n: usize, r: usize)
     requires { Placing a n r work.old }
     ensures { PlacedAt a n r work.old work.new }
 {
-    let places = a.places;
     let mut at = 0;
-    let mut t = 0;
-    while t < r {
+    for t in 0..r {
         let i = node_at(work, a, n, r, t);
         let size = work[i];
-        work[places + i] = at;
+        work[a.places + i] = at;
         at += size;
-        t += 1;
     }
-}
-
-// a less b, and 0 where b is more.
-fn less(a: u64, b: u64) -> u64
-    ensures { result ≡ a - b }
-{
-    if b < a { a - b } else { 0 }
 }
 
 // The offset that a field of node i needs, by the places.
@@ -55,46 +38,38 @@ pub fn offset_at(work: &[u64], a: Areas, n: usize, i: usize, f: Field) -> u64
     requires { AtNode a n i work.now × (f.child < n) }
     ensures { result ≡ offset_by (places_in a work.now) i (link_by f) }
 {
-    let places = a.places;
-    let child = f.child;
-    let own = work[places + i];
-    less(less(work[places + child], own), f.inner as u64)
+    let own = work[a.places + i];
+    work[a.places + f.child]
+        .saturating_sub(own)
+        .saturating_sub(f.inner as u64)
 }
 
 // The first link of node i that does not fit.
-fn look_links(work: &[u64], a: Areas, n: usize, i: usize) -> Look
+fn look_links(work: &[u64], a: Areas, n: usize, i: usize) -> Result<(), Overflow>
     requires { AtNode a n i work.now }
     ensures { result ≡ look_links (places_in a work.now) i ((graph_on a n work.now).links i) }
 {
-    let count = link_count(work, a, n, i);
-    let mut t = 0;
-    while t < count {
+    for t in 0..link_count(work, a, n, i) {
         let f = field_at(work, a, n, i, t);
         let needed = offset_at(work, a, n, i, f);
         if capacity(f.width) <= needed {
-            return Look::Over(Overflow {
+            return Err(Overflow {
                 parent: object_of(i),
                 field: f.at,
                 needed: needed as usize,
             });
         }
-        t += 1;
     }
-    Look::Fits
+    Ok(())
 }
 
 // The first link, in placing order, that does not fit.
-pub fn look_all(work: &[u64], a: Areas, n: usize, r: usize) -> Look
+pub fn look_all(work: &[u64], a: Areas, n: usize, r: usize) -> Result<(), Overflow>
     requires { Placing a n r work.now }
     ensures { result ≡ look (graph_on a n work.now) (places_in a work.now) (order_in a r work.now) }
 {
-    let mut t = 0;
-    while t < r {
-        let u = look_links(work, a, n, node_at(work, a, n, r, t));
-        let Look::Fits = u else {
-            return u;
-        };
-        t += 1;
+    for t in 0..r {
+        look_links(work, a, n, node_at(work, a, n, r, t))?;
     }
-    Look::Fits
+    Ok(())
 }

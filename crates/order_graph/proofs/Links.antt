@@ -1,49 +1,26 @@
--- The words of a node's links, read from the whole memory; and a node's links one by one.
-use mathlib.Core.Path.{◌≡◌, refl, sym, ap, subst, ◌∙◌}
+-- A link's weight, read from the whole memory; and a node's links one by one.
+use mathlib.Core.Path.{◌≡◌, sym, ap, ◌∙◌}
 use Prim.Native.Nat.{ℕ, suc, ◌+◌, ◌-◌, ◌*◌, ◌≤◌, ◌<◌}
 use mathlib.Core.List.{List, [], ◌∷◌}
 use native.Mathlib.Omega.{arith}
-use lib.ListN.{length, get_or, take}
+use lib.ListN.{get_or, take}
 use lib.Seq.{get_or-take}
 use borrow.Author.Tests.{lt-ltb}
 use Rattle.big_endian.specs.BigEndian.{capacity}
 use Rattle.big_endian.proofs.Laws.{capacity-rises}
 use Rattle.model_orders.specs.Object.{Link, widest}
-use Rattle.model_orders.proofs.Slots.{width-most}
 use Rattle.model_orders.specs.Distance.{weight}
 use Rattle.regions.specs.Region.{Kept}
 use Rattle.regions.proofs.Frame.{kept_less}
-use Rattle.work.specs.Packed.{packed_words, packed_at}
+use Rattle.work.specs.Packed.{packed_words}
 use Rattle.work.specs.declared.Areas.{Areas}
 use Rattle.order_graph.specs.Graph.{graph_in, link_of, links_at, links_from, links_after, link_count, Stands, AtNode, AtLink, FromLink, FieldOf, EdgeOf}
 
-pub count_word : {a : Areas} {n i : ℕ} {w : List ℕ} → AtNode a n i w → get_or w (a.counts + i) 0 ≡ link_count a (take a.keys w) i
-count_word {a} {n} {i} {w} s = sym (get_or-take a.keys w (a.counts + i) 0 (omega arith))
-
--- where the words of a node's links begin, and that they lie in front
-module _ {a : Areas} {n i : ℕ} {w : List ℕ} (s : AtNode a n i w) where
-  pub links-are : a.links + get_or w (a.firsts + i) 0 * packed_words ≡ links_at a (take a.keys w) i
-  links-are = rw (get_or-take a.keys w (a.firsts + i) 0 (omega arith))
-
-  pub links-within : a.links + get_or w (a.firsts + i) 0 * packed_words ≤ a.keys
-  links-within = omega (arith, links-are, (s.graph.tidy.node i s.inside).within)
-
+-- a child and its link's weight
 module _ {a : Areas} {n i t : ℕ} {w : List ℕ} (s : AtLink a n i t w) where
   abbrev g : ℕ
   g = a.keys
 
-  -- the words of a link lie in front
-  pub words-in : links_at a (take g w) i + t * packed_words + packed_words ≤ g
-  words-in = omega (arith, (s.node.graph.tidy.node i s.node.inside).within)
-
-  pub words-read : (j : ℕ) → j ≡ links_at a (take g w) i + t * packed_words → FieldOf a n (take g w) i t (packed_at w j)
-  words-read j e =
-      let b : j + packed_words ≤ g = omega (arith, words-in) in
-      let is : link_of a (take g w) i t ≡ packed_at w j = rw (← e, get_or-take g w j 0 (omega arith), get_or-take g w (j + 1) 0 (omega arith)) in
-      let o = s.node.graph.tidy.node i s.node.inside in
-      subst (FieldOf a n (take g w) i t) is (record { is = refl; narrow = width-most _ (o.wide t s.some); known = o.known t s.some })
-
-  -- a child and its link's weight
   pub edge-read : {l : Link} {room : ℕ} → FieldOf a n (take g w) i t l → room ≡ capacity l.slot.width → EdgeOf a n (take g w) i t l.child (get_or w l.child 0 + room)
   edge-read {l} {room} f e =
       let d = s.node.graph.tidy in
@@ -56,14 +33,6 @@ module _ {a : Areas} {n i t : ℕ} {w : List ℕ} (s : AtLink a n i t w) where
         weight_is = weighs ∙ ap (weight (graph_in a n (take g w))) f.is;
         light = omega (arith, d.light l.child b, capacity-rises l.slot.width widest f.narrow);
       }
-
--- the two words of a link are words of the memory
-module _ {a : Areas} {n i t from : ℕ} {w : List ℕ} (s : FromLink a n i t from w) where
-  front_long : a.keys ≤ length w
-  front_long = let stands = s.link.node.graph in omega (arith, stands.apart, stands.long)
-
-  pub from-within : from + t * packed_words + packed_words ≤ length w
-  from-within = omega (arith, words-in s.link, front_long)
 
 -- the graph stands, and is the same, while nothing in front changes
 module _ {a : Areas} {n x y : ℕ} {w₀ w : List ℕ} (s : Stands a n w₀) (k : Kept x y w₀ w) (h : a.keys ≤ x) where

@@ -1,5 +1,5 @@
 -- The graph in the first words of the work memory: sizes, first links, link counts, then the links, two words each. `f` is those words.
-use Rattle.std.specs.Prelude.{ℕ, zero, suc, ◌+◌, ◌*◌, ◌-◌, ◌≤◌, ◌<◌, ◌≡◌, List, [], ◌∷◌, true, length, get_or, take, ltb}
+use Rattle.std.specs.Prelude.{ℕ, zero, suc, ◌+◌, ◌*◌, ◌-◌, ◌≤◌, ◌<◌, min, ◌≡◌, List, [], ◌∷◌, true, length, get_or, take, ltb}
 use Rattle.lists.specs.Lists.{pick}
 use Rattle.answer.specs.declared.ObjectId.{ObjectId}
 use Rattle.model_orders.specs.Object.{Link, widest, width_ok}
@@ -142,3 +142,18 @@ pub record EdgeOf (a : Areas) (n : ℕ) (f : List ℕ) (i t child weigh : ℕ) :
   pub known : child < n
   pub weight_is : weigh ≡ weight (graph_in a n f) (link_of a f i t)
   pub light : weigh < most_weight
+
+-- ---- links in a row
+
+-- the links from number t up to `end` lead to one child, and the narrowest of them is of this width: one link, or a row and the link behind it
+pub data Row (a : Areas) (n : ℕ) (f : List ℕ) (i t : ℕ) : (end child width : ℕ) → Type 0 where
+  one : {end child width : ℕ} {l : Link} → FieldOf a n f i t l → end ≡ t + 1 → child ≡ l.child → width ≡ l.slot.width → Row a n f i t end child width
+  more : {last end child least width : ℕ} {l : Link} → Row a n f i t last child least → FieldOf a n f i last l → end ≡ last + 1 → child ≡ l.child
+      → width ≡ min least l.slot.width → Row a n f i t end child width
+
+pub record RunFrom (a : Areas) (n : ℕ) (f : List ℕ) (i t end child width : ℕ) : Type 0 where
+  pub some : t < end
+  pub most : end ≤ link_count a f i
+  pub known : child < n
+  pub narrow : width ≤ widest
+  pub row : Row a n f i t end child width

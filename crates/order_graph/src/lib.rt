@@ -10,6 +10,8 @@ use answer::ObjectId;
 use big_endian::capacity;
 use work::{Areas, MOST_HALF, PACKED_WORDS};
 
+pub mod run;
+
 // A link: its field's place and width, and the child.
 #[derive(Clone, Copy)]
 pub struct Field {
@@ -114,7 +116,7 @@ pub fn edge_from(work: &[u64], a: Areas, n: usize, i: usize, t: usize, from: usi
     let f = field_from(work, a, n, i, t, from);
     let child = f.child;
     Edge {
-        child: child,
+        child,
         weight: work[child] + capacity(f.width),
     }
 }

@@ -1,12 +1,12 @@
 -- A node appended: its three words, and its links' words behind those of all others.
 use mathlib.Core.Path.{◌≡◌, refl, sym, ap, ◌∙◌}
-use Prim.Native.Nat.{ℕ, ◌+◌, ◌-◌, ◌*◌, ◌≤◌, ◌<◌}
+use Prim.Native.Nat.{ℕ, ◌+◌, ◌*◌, ◌≤◌, ◌<◌}
 use mathlib.Core.List.{List}
 use native.Mathlib.Omega.{arith}
 use native.Mathlib.Decide.{ℕ_discrete}
 use lib.ListN.{length, get_or, set, take, length-set}
 use lib.Seq.{get_or-take, get_or-set_same, get_or-set_other}
-use Rattle.regions.specs.Region.{Away, behind, Kept}
+use Rattle.regions.specs.Region.{Kept}
 use Rattle.regions.proofs.Laws.{region-at}
 use Rattle.regions.proofs.Frame.{kept_then, kept_set, kept_less, kept_at}
 use Rattle.work.specs.Packed.{packed_words, packed_at}
@@ -32,22 +32,12 @@ module _ {a : Areas} {nodes links x : ℕ} {w : List ℕ} (s : Appending a nodes
   tidy-x : TidyNode a nodes f x
   tidy-x = s.node.graph.tidy.node x s.node.inside
 
-  pub first_word : get_or w (a.firsts + x) 0 ≡ first_link a f x
-  first_word = sym (get_or-take a.keys w (a.firsts + x) 0 (omega (arith, s.node.graph.apart, s.node.graph.tidy.nodes, s.node.inside)))
-
   -- the links' words lie apart from their copies, and both lie in front
   pub links-behind : links_at a f x + many * packed_words ≤ to
   links-behind = omega (arith, s.taken x s.node.inside)
 
   pub links-room : to + many * packed_words ≤ a.keys
   links-room = omega (arith, s.link-room)
-
-  pub links-asks : {j k : ℕ} → j ≡ first_link a f x → k ≡ many
-      → Away (a.links + j * packed_words) to (k * packed_words) × (a.links + j * packed_words + k * packed_words ≤ length w) × (to + k * packed_words ≤ length w)
-  links-asks e d =
-      let p = s.node.graph.apart in
-      let l = s.node.graph.long in
-      rw (e, d) (behind links-behind, omega (arith, p, l, links-behind, links-room), omega (arith, p, l, links-room))
 
   module _ {w₁ : List ℕ} (c : LinksCopied a links x w w₁) where
     abbrev sized : List ℕ

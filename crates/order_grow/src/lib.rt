@@ -5,7 +5,7 @@ ghost use Rattle.std.specs.Prelude.{◌≡◌, ◌≤◌, ◌<◌, length};
 ghost use Rattle.work.specs.Areas.{Apart};
 ghost use Rattle.order_grow.specs.Grow.{node_set, Appending, LinksCopied, NodeAppended, Leading, LinkLed};
 
-use order_graph::{link_count, words_at};
+use order_graph::{link_count, links_at, words_at};
 use regions::copy;
 use work::{Areas, MOST_HALF, PACKED_WORDS};
 
@@ -15,8 +15,7 @@ fn copy_links(work: &mut [u64], a: Areas, nodes: usize, links: usize, x: usize)
     ensures { LinksCopied a links x work.old work.new }
 {
     let count = link_count(work, a, nodes, x);
-    let of = a.firsts + x;
-    let from = a.links + work[of] as usize * PACKED_WORDS;
+    let from = links_at(work, a, nodes, x);
     let to = a.links + links * PACKED_WORDS;
     copy(work, from, to, count * PACKED_WORDS);
 }
@@ -27,10 +26,8 @@ fn set_node(work: &mut [u64], a: Areas, i: usize, size: u64, first: usize, count
     ensures { work.new ≡ node_set a i size first count work.old }
 {
     work[i] = size;
-    let at = a.firsts + i;
-    work[at] = first as u64;
-    let many = a.counts + i;
-    work[many] = count as u64;
+    work[a.firsts + i] = first as u64;
+    work[a.counts + i] = count as u64;
 }
 
 // Node `nodes` becomes like x; the answer is how many links are taken then.

@@ -1,12 +1,12 @@
 -- A heap with a hole: the hole moves up or down, and is filled.
 use Prim.Native.Nat.{ℕ, ◌+◌, ◌*◌, ◌≤◌, ◌<◌}
-use mathlib.Core.Path.{◌≡◌, refl, ap, ◌∙◌}
+use mathlib.Core.Path.{◌≡◌, ap, ◌∙◌}
 use mathlib.Core.List.{List}
 use native.Mathlib.Omega.{arith}
 use native.Mathlib.Decide.{ℕ_discrete}
 use lib.ListN.{length, get_or, set, length-set}
 use lib.Seq.{get_or-set_same, get_or-set_other}
-use Rattle.order_heap.specs.Heap.{parent, Heaped, Hollow, Filled, Moved, Lesser}
+use Rattle.order_heap.specs.Heap.{parent, Hollow, Filled, Moved, Lesser}
 use Rattle.order_heap.proofs.Bags.{count-moved}
 
 -- ---- what a store leaves
@@ -88,15 +88,6 @@ pub record Rising (leaf v i : ℕ) (l₀ l : List ℕ) : Type 0 where
   pub below : (j : ℕ) → j < length l → 0 < j → parent j ≡ i → v ≤ get_or l j 0
   pub filled : Filled leaf v l₀ (set l i v)
 
-pub rising_none : {leaf : ℕ} {l : List ℕ} (v : ℕ) → Hollow leaf l → Rising leaf v leaf l l
-rising_none {leaf} {l} v s =
-    record {
-      long = refl;
-      holed = record { inside = s.inside; above = λ j h d e. s.above j h d; across = λ j h m e. absurd (omega arith) };
-      below = λ j h m e. absurd (omega arith);
-      filled = record { long = length-set l leaf v; each = λ x. refl };
-    }
-
 module _ {leaf v i : ℕ} {l₀ l : List ℕ} (s : Rising leaf v i l₀ l) where
   pub rising-next : 0 < i → v ≤ get_or l (parent i) 0 → Rising leaf v (parent i) l₀ (set l i (get_or l (parent i) 0))
   rising-next h m =
@@ -112,32 +103,12 @@ module _ {leaf v i : ℕ} {l₀ l : List ℕ} (s : Rising leaf v i l₀ l) where
         filled = filled-moved leaf v i p l₀ l b (omega arith) (λ q. omega arith) s.filled;
       }
 
-  pub rising-all : (0 < i → get_or l (parent i) 0 ≤ v) → Heaped (set l i v) × Filled leaf v l₀ (set l i v)
-  rising-all h =
-      let b = s.holed.inside in
-      let n : length (set l i v) ≡ length l = length-set l i v in
-      let order : Heaped (set l i v) =
-      record {
-        above = λ j k.
-            ordered l i v b (parent j) j (λ e f. s.below j (omega arith) (omega arith) e) (λ e f. rw f (h (omega arith)))
-            (λ e f. s.holed.above j (omega arith) f e);
-      } in
-      (order, s.filled)
-
 -- ---- the way down: the hole has come from the root to place i
 
 pub record Sinking (i : ℕ) (l₀ l : List ℕ) : Type 0 where
   pub long : length l ≡ length l₀
   pub holed : Holed i l
   pub moved : Moved 0 i l₀ l
-
-pub sinking-none : {l : List ℕ} → 0 < length l → Heaped l → Sinking 0 l l
-sinking-none {l} h s =
-    record {
-      long = refl;
-      holed = record { inside = h; above = λ j k d e. s.above j k; across = λ j k m e. absurd (omega arith) };
-      moved = record { filled = λ v. record { long = length-set l 0 v; each = λ x. refl } };
-    }
 
 module _ {i : ℕ} {l₀ l : List ℕ} (s : Sinking i l₀ l) where
   sinking-to : (c : ℕ) → 0 < c → c < length l → parent c ≡ i → ((j : ℕ) → j < length l → 0 < j → parent j ≡ i → get_or l c 0 ≤ get_or l j 0) → Sinking c l₀ (set l i (get_or l c 0))

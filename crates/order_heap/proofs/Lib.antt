@@ -1,5 +1,4 @@
 pub mod Bags
-pub mod Choosing
 pub mod Each
 pub mod Holes
 pub mod Leading

@@ -4,16 +4,13 @@ use mathlib.Core.Path.{◌≡◌, refl, sym, ap, ◌∙◌}
 use mathlib.Core.List.{List, [], ◌∷◌, ◌++◌}
 use native.Mathlib.Omega.{arith}
 use native.Mathlib.Numerals.{add-one}
-use lib.ListN.{length, get_or, set, take, drop, length-append, length-drop, length-set}
+use lib.ListN.{length, get_or, set, take, drop, length-append, length-drop}
 use lib.Seq.{length-take-le, get_or-take, take-suc, take-suc-set, take-set-lt, take_at, drop_at}
 use Rattle.model_orders.specs.Bag.{one, count}
 use Rattle.model_orders.specs.Space.{spot}
 use Rattle.model_orders.proofs.Spots.{spot_in, spot-at, count_at}
-use Rattle.order_heap.specs.Heap.{parent, Heaped, Least, Pushed, Popped, Hollow, Filled, Moved}
+use Rattle.order_heap.specs.Heap.{parent, Heaped, Least, Pushed, Popped, Filled}
 use Rattle.order_heap.proofs.Bags.{count-snoc, count_set}
-
-pub front_long : (n : ℕ) (w : List ℕ) → n ≤ length w → n ≡ length (take n w)
-front_long n w h = sym (length-take-le n w h)
 
 -- ---- the root is the least
 
@@ -46,22 +43,6 @@ module _ (k : ℕ) (w : List ℕ) (h : k ≤ length w) (s : Heaped (take k w)) w
             rw (get_or-take n w (parent j) 0 p, get_or-take n w j 0 q) (front_above j (omega arith));
       }
 
-  pub one_less : 0 < k - 1 → (0 < length (take (k - 1) w)) × Heaped (take (k - 1) w)
-  one_less b = (omega (arith, length-take-le (k - 1) w (omega arith)), heaped-less (k - 1) (omega arith))
-
-  -- the word behind the heap is a hole
-  pub hollow-last : k < length w → Hollow k (take (k + 1) w)
-  hollow-last m =
-      let e = length-take-le (k + 1) w (omega arith) in
-      record {
-        inside = omega arith;
-        leaf = omega arith;
-        above = λ j b d.
-            let q : j < k + 1 = omega arith in
-            let p : parent j < k + 1 = omega arith in
-            rw (get_or-take (k + 1) w (parent j) 0 p, get_or-take (k + 1) w j 0 q) (front_above j (omega arith));
-      }
-
   pub front-least : 0 < k → Least (get_or w 0 0) (take k w)
   front-least m = rw (get_or-take k w 0 0 m) at (root-least (take k w) s (omega (arith, length-take-le k w h)))
 
@@ -92,12 +73,6 @@ pushed k v w m h (s, f) =
       kept = back-kept (k + 1) w m b f.long;
       long = whole_long (k + 1) w m b f.long;
     }
-
--- the hole that moved is filled
-pub moved-filled : {r v : ℕ} {l m m' : List ℕ} → Moved 0 r l m → Heaped m' × Filled r v m m' → Heaped m' × Filled 0 v l m'
-moved-filled {r} {v} {l} {m} {m'} a (s, f) =
-    let e = length-set m r v in
-    (s, record { long = omega (arith, f.long, (a.filled v).long); each = λ x. f.each x ∙ (a.filled v).each x })
 
 module _ (k : ℕ) (w : List ℕ) (h : k ≤ length w) (b : 0 < k) where
   last_out : (x : ℕ) → count x (take k w) ≡ one x (get_or w (k - 1) 0) + count x (take (k - 1) w)

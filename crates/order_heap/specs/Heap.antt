@@ -1,6 +1,5 @@
 -- A binary heap in a list of numbers: the children of place i stand at i * 2 + 1 and i * 2 + 2, and none is less than its parent.
-use Rattle.std.specs.Prelude.{ℕ, ◌+◌, ◌-◌, ◌*◌, ◌/◌, ◌≤◌, ◌<◌, ◌≡◌, List, Bool, length, get_or, set, take, drop}
-use Rattle.lists.specs.Lists.{pick}
+use Rattle.std.specs.Prelude.{ℕ, ◌+◌, ◌-◌, ◌*◌, ◌/◌, ◌≤◌, ◌<◌, ◌≡◌, List, length, get_or, set, take, drop}
 use Rattle.model_orders.specs.Bag.{one, count}
 
 -- the place above a place
@@ -51,11 +50,6 @@ pub record Filled (i v : ℕ) (l m : List ℕ) : Type 0 where
 -- the hole at place i of l is now at place j of m: whatever fills it, they hold the same
 pub record Moved (i j : ℕ) (l m : List ℕ) : Type 0 where
   pub filled : (v : ℕ) → Filled i v l (set m j v)
-
--- 1 where the test holds, else 0
-pub record Numbered (t : Bool) (r : ℕ) : Type 0 where
-  pub few : r ≤ 1
-  pub is : r ≡ pick t 1 0
 
 -- of the children at c and c + 1, r is one, and no greater than either
 pub record Lesser (c r : ℕ) (l : List ℕ) : Type 0 where

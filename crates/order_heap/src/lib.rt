@@ -18,8 +18,7 @@ pub fn push(h: &mut [u64], k: usize, v: u64)
     requires { (k < length h.old) × Heaped (take k h.old) }
     ensures { Pushed k v h.old h.new }
 {
-    let n = k + 1;
-    sift_up(&mut h[..n], k, v);
+    sift_up(&mut h[..k + 1], k, v);
 }
 
 // Takes the least of the k numbers out. Words from k - 1 on stay.

@@ -1,20 +1,13 @@
 // A heap with a hole, which moves down or up to where a number fits.
 ghost use Rattle.std.specs.Prelude.{◌+◌, ◌<◌, length};
-ghost use Rattle.order_heap.specs.Heap.{Heaped, Hollow, Filled, Moved, Numbered, Lesser};
-
-// 1 for true, 0 for false.
-fn as_number(t: bool) -> usize
-    ensures { Numbered t result }
-{
-    t as usize
-}
+ghost use Rattle.order_heap.specs.Heap.{Heaped, Hollow, Filled, Moved, Lesser};
 
 // The lesser of the children at c and c + 1. It has no branch, since no processor can foretell which is less.
 fn lesser(h: &[u64], c: usize) -> usize
     requires { c + 1 < length h.now }
     ensures { Lesser c result h.now }
 {
-    c + as_number(h[c + 1] < h[c])
+    c + usize::from(h[c + 1] < h[c])
 }
 
 // Fills the hole at a leaf with v: greater parents come down first.

@@ -64,9 +64,6 @@ module _ {i j up : ℕ} {b₀ b : List ℕ} (c : Climbing i j up b₀ b) where
         same = e ∙ c.same;
       }
 
-  pub climbing-less : up < j → get_or b up 0 < j
-  climbing-less h = omega (arith, c.falls.low up)
-
   pub climbing-all : j ≤ up → Finds i j b₀ b
   climbing-all h =
       let e : j ≡ get_or (roots b₀) i 0 = sym (c.rooted.top j (omega (arith, c.boss, c.falls.low j))) ∙ c.same in

@@ -27,9 +27,5 @@ pub fn join(boss: &mut [u64], a: usize, b: usize)
 {
     let x = find(boss, a);
     let y = find(boss, b);
-    if x < y {
-        boss[y] = x as u64;
-        return;
-    }
-    boss[x] = y as u64;
+    boss[x.max(y)] = x.min(y) as u64;
 }

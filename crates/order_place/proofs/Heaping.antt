@@ -17,7 +17,7 @@ use Rattle.order_graph.specs.Graph.{graph_on}
 use Rattle.order_graph.proofs.Links.{front_kept, stands-kept}
 use Rattle.order_heap.proofs.Stamped.{stamped-long}
 use Rattle.order_release.specs.Release.{Arrivals, released_all, arrivals_of, Live, ReleasedAll}
-use Rattle.order_ready.specs.Ready.{Holds, InHeap, TookLeast, Pushing, PushedAll}
+use Rattle.order_ready.specs.Ready.{Holds, TookLeast, Pushing, PushedAll}
 use Rattle.order_place.specs.Place.{RootInHeap, OrderFound}
 use Rattle.order_place.proofs.Turns.{new, turn-next, turn-arrived}
 use Rattle.order_place.proofs.Starting.{keys_kept}
@@ -200,11 +200,6 @@ module _ {a : Areas} {n root m q : ℕ} {w₀ w : List ℕ} (r : RootInHeap a n 
       go (x ∷ l) s = absurd (omega (arith, held s))
 
   module _ (h : q < m) where
-    pub heap-take : InHeap a n m (m - q) w
-    heap-take =
-        let s = u.heaping in
-        record { graph = (live s).graph; few = few s; some = omega arith; ids = (live s).ids; ready = u.ready; holds = s.holds }
-
     module _ {i : ℕ} {w₁ : List ℕ} (t : TookLeast a n m (m - q) i w w₁) where
       pub heap-placed : Live a a.arrived n m (set w₁ (a.order + q) i)
       heap-placed = live-kept (live u.heaping) (kept₂ u.heaping h t)

@@ -1,7 +1,7 @@
 -- By keys: the root goes into the empty heap.
 use mathlib.Core.Path.{◌≡◌, sym, ap, ◌∙◌}
-use Prim.Native.Nat.{ℕ, ◌<◌}
-use mathlib.Core.List.{List, [], ◌∷◌}
+use Prim.Native.Nat.{ℕ}
+use mathlib.Core.List.{List, []}
 use native.Mathlib.Omega.{arith}
 use lib.ListN.{get_or}
 use Rattle.regions.specs.Region.{ceiling, Kept}
@@ -11,7 +11,7 @@ use Rattle.work.specs.declared.Areas.{Areas}
 use Rattle.work.specs.Views.{key_in}
 use Rattle.order_heap.specs.Heap.{Heaped}
 use Rattle.order_heap.proofs.Stamped.{stamped-none}
-use Rattle.order_ready.specs.Ready.{SmallKeys, Holds, Pushing, PushedAll}
+use Rattle.order_ready.specs.Ready.{SmallKeys, Pushing, PushedAll}
 use Rattle.order_place.specs.Place.{Starting, Begun, RootReady, RootInHeap, OrderFound}
 use Rattle.order_place.proofs.Starting.{keys_kept, starting-kept, found-kept, begun-ready, in-arrived}
 

@@ -25,12 +25,12 @@ fn place_queue(work: &mut [u64], a: Areas, n: usize, root: usize) -> usize
     requires { RootReady a a.order n root work.old }
     ensures { OrderFound a n root same_key result work.old work.new }
 {
-    let order = a.order;
     let mut m = 1;
     let mut q = 0;
+    // m grows on the way, so that the range is not known before
     while q < m {
-        let i = work[order + q] as usize;
-        m = release_all(work, a, order, n, i, m);
+        let i = work[a.order + q] as usize;
+        m = release_all(work, a, a.order, n, i, m);
         q += 1;
     }
     q
@@ -50,15 +50,13 @@ fn place_heap(work: &mut [u64], a: Areas, n: usize, root: usize) -> usize
     requires { RootInHeap a n root work.old }
     ensures { OrderFound a n root (key_in a work.old) result work.old work.new }
 {
-    let order = a.order;
-    let arrived = a.arrived;
     let mut m = 1;
     let mut q = 0;
     while q < m {
         let k = m - q;
         let i = take_least(work, a, n, m, k);
-        work[order + q] = i as u64;
-        let more = release_all(work, a, arrived, n, i, m);
+        work[a.order + q] = i as u64;
+        let more = release_all(work, a, a.arrived, n, i, m);
         push_arrivals(work, a, n, m, more, k - 1);
         m = more;
         q += 1;

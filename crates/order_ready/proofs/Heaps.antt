@@ -1,23 +1,22 @@
 -- The heap of the ready nodes: the least taken out, more put in.
 use mathlib.Core.Path.{◌≡◌, sym, ap, subst, ◌∙◌}
 use Prim.Native.Nat.{ℕ, ◌+◌, ◌-◌, ◌≤◌, ◌<◌}
-use mathlib.Core.List.{List, [], ◌∷◌, ◌++◌, append_assoc, append-nil}
+use mathlib.Core.List.{List, [], ◌∷◌, ◌++◌, append_assoc}
 use native.Mathlib.Omega.{arith}
-use lib.ListN.{length, get_or, take, drop}
-use lib.Seq.{drop_at, drop-append-le, drop-length, take-take}
+use lib.ListN.{length, get_or, drop}
+use lib.Seq.{drop_at, drop-append-le, take-take}
 use Rattle.regions.specs.Region.{Kept}
 use Rattle.regions.proofs.Laws.{region-at, region-length, region-next}
-use Rattle.regions.proofs.Frame.{kept-all, kept_then, kept-below}
+use Rattle.regions.proofs.Frame.{kept_then, kept-below}
 use Rattle.regions.proofs.Bounds.{ceiling-at, ceiling-take}
 use Rattle.work.specs.declared.Areas.{Areas}
 use Rattle.work.specs.Views.{keys_in, key_in, arrived_in}
 use Rattle.order_graph.specs.Graph.{Stands}
 use Rattle.order_graph.proofs.Links.{stands-kept}
-use Rattle.order_heap.specs.Heap.{Heaped}
 use Rattle.order_heap.specs.Stamps.{stamp, arrival_of, node_of, Stamped}
 use Rattle.order_heap.proofs.Stamped.{stamped-more, stamped-least, stamped-arrived}
 use Rattle.order_ready.specs.Ready.{most_key, InHeap, TookLeast, Pushing, PushedAll}
-use Rattle.order_ready.proofs.Lent.{lent, PoppedIn, PushedIn, lent-long, lent-heaped}
+use Rattle.order_ready.proofs.Lent.{PoppedIn, PushedIn}
 
 -- ---- what stands in front of the heap stays
 
@@ -33,10 +32,6 @@ module _ {a : Areas} {n : ℕ} {w w' : List ℕ} (g : Stands a n w) (s : Kept a.
       subst (λ (ks : List ℕ). Stamped (λ i. get_or ks i 0) (arrived_in a m w') ready bag) (sym keys-stay) (rw (arrived-stay m h) z)
 
 -- ---- the least is taken out
-
-pub pop-asks : {a : Areas} {n m k : ℕ} {w : List ℕ} → 0 < k → InHeap a n m k w
-    → (0 < k) × (k ≤ length (lent a.heap a.order w)) × Heaped (take k (lent a.heap a.order w))
-pop-asks {k = k} h s = (h, omega (arith, lent-long s.graph), lent-heaped k s.graph (omega arith) s.holds.heaped)
 
 module _ {a : Areas} {n m k t : ℕ} {w w' : List ℕ} (s : InHeap a n m k w) (p : PoppedIn a k t w w') where
   pub took-inside : arrival_of t < m
@@ -77,9 +72,6 @@ module _ {a : Areas} {n m k : ℕ} {w : List ℕ} (s : Pushing a n m (m + 1) k w
       let long = region-length a.keys a.nodes w (omega arith) in
       omega (arith, region-at a.keys a.nodes w i h, ceiling-at (keys_in a w) i (omega arith))
 
-  pub push-asks : (k < length (lent a.heap a.order w)) × Heaped (take k (lent a.heap a.order w))
-  push-asks = (omega (arith, lent-long s.graph), lent-heaped k s.graph (omega arith) s.heaped)
-
   pub pushed-one : {w' : List ℕ} → PushedIn a k (stamp (get_or w (a.keys + node) 0) m) w w' → PushedAll a m (m + 1) k w w'
   pushed-one p =
       let one : m + 1 - m ≡ 1 = omega arith in
@@ -101,27 +93,17 @@ module _ {a : Areas} {n m k : ℕ} {w : List ℕ} (s : Pushing a n m (m + 1) k w
 
 -- ---- all are put in, one after the other
 
--- those up to j are put in, and the heap is of `held`
-pub record PushesTo (a : Areas) (from to k j held : ℕ) (w₀ w : List ℕ) : Type 0 where
+-- those up to j are put in
+pub record PushesTo (a : Areas) (from to k j : ℕ) (w₀ w : List ℕ) : Type 0 where
   pub low : from ≤ j
   pub high : j ≤ to
-  pub many : held ≡ k + (j - from)
   pub done : PushedAll a from j k w₀ w
 
 module _ {a : Areas} {n from to k : ℕ} {w₀ : List ℕ} (s : Pushing a n from to k w₀) where
-  pub pushes-none : PushesTo a from to k from k w₀ w₀
-  pushes-none =
-      let z : k + (from - from) ≡ k = omega arith in
-      let long : length (arrived_in a from w₀) ≡ from = region-length a.arrived from w₀ (omega arith) in
-      let none : drop from (arrived_in a from w₀) ≡ [] = ap (λ (i : ℕ). drop i (arrived_in a from w₀)) (sym long) ∙ drop-length (arrived_in a from w₀) in
-      record {
-        low = omega arith;
-        high = s.more;
-        many = sym z;
-        done = record { kept = kept-all; heaped = rw z s.heaped; held = λ ready h. rw (z, none, append-nil) h };
-      }
+  module _ {j : ℕ} {w : List ℕ} (i : PushesTo a from to k j w₀ w) where
+    abbrev held : ℕ
+    held = k + (j - from)
 
-  module _ {j held : ℕ} {w : List ℕ} (i : PushesTo a from to k j held w₀ w) where
     arrived-same : (m : ℕ) → m ≤ to → arrived_in a m w ≡ arrived_in a m w₀
     arrived-same m h = arrived-stay s.graph i.done.kept m (omega arith)
 
@@ -136,10 +118,10 @@ module _ {a : Areas} {n from to k : ℕ} {w₀ : List ℕ} (s : Pushing a n from
           ids =
               rw (arrived-same (j + 1) (omega arith), ← take-take (j + 1) to (drop a.arrived w₀) (omega arith))
               (omega (arith, ceiling-take (j + 1) (arrived_in a to w₀)));
-          heaped = rw i.many i.done.heaped;
+          heaped = i.done.heaped;
         }
 
-    pub pushes-next : {w' : List ℕ} → j < to → PushedAll a j (j + 1) held w w' → PushesTo a from to k (j + 1) (held + 1) w₀ w'
+    pub pushes-next : {w' : List ℕ} → j < to → PushedAll a j (j + 1) held w w' → PushesTo a from to k (j + 1) w₀ w'
     pushes-next {w'} h p =
         let one : held + (j + 1 - j) ≡ k + (j + 1 - from) = omega arith in
         let long : length (arrived_in a j w₀) ≡ j = region-length a.arrived j w₀ (omega arith) in
@@ -152,16 +134,12 @@ module _ {a : Areas} {n from to k : ℕ} {w₀ : List ℕ} (s : Pushing a n from
         record {
           low = omega arith;
           high = omega arith;
-          many = omega arith;
           done =
               record {
                 kept = kept_then i.done.kept p.kept;
                 heaped = rw one at p.heaped;
                 held = λ ready z.
                     rw (more, ← append_assoc ready (drop from (arrived_in a j w₀)) (node ∷ []))
-                    (rw (one, last) at (p.held (ready ++ drop from (arrived_in a j w₀)) (rw (← i.many) at (i.done.held ready z))));
+                    (rw (one, last) at (p.held (ready ++ drop from (arrived_in a j w₀)) (i.done.held ready z)));
               };
         }
-
-    pub pushes_all : to ≤ j → PushedAll a from to k w₀ w
-    pushes_all h = let e : j ≡ to = omega arith in rw e at i.done

@@ -43,9 +43,6 @@ module _ {a : Areas} {n : ℕ} {w : List ℕ} (k : ℕ) (g : Stands a n w) (m : 
   first : take k (lent a.heap a.order w) ≡ heap_in a k w
   first = take-take k (a.order - a.heap) (drop a.heap w) (omega arith)
 
-  pub lent-heaped : Heaped (heap_in a k w) → Heaped (take k (lent a.heap a.order w))
-  lent-heaped s = rw first s
-
   module _ (v : List ℕ) (l : length v ≡ length (lent a.heap a.order w)) where
     long : a.heap + a.nodes ≤ length w
     long = omega (arith, g.apart, g.long)

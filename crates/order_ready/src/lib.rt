@@ -12,9 +12,7 @@ pub fn take_least(work: &mut [u64], a: Areas, n: usize, m: usize, k: usize) -> u
     requires { (0 < k) × InHeap a n m k work.old }
     ensures { TookLeast a n m k result work.old work.new }
 {
-    let heap = a.heap;
-    let order = a.order;
-    let stamp = pop(&mut work[heap..order], k);
+    let stamp = pop(&mut work[a.heap..a.order], k);
     let at = a.arrived + arrival_of(stamp);
     work[at] as usize
 }
@@ -24,13 +22,11 @@ fn push_arrival(work: &mut [u64], a: Areas, n: usize, m: usize, k: usize)
     requires { Pushing a n m (m + 1) k work.old }
     ensures { PushedAll a m (m + 1) k work.old work.new }
 {
-    let heap = a.heap;
-    let order = a.order;
     let j = a.arrived + m;
     let i = work[j] as usize;
     let at = a.keys + i;
     let stamp = stamp_of(work[at], m);
-    push(&mut work[heap..order], k, stamp);
+    push(&mut work[a.heap..a.order], k, stamp);
 }
 
 // Those that became ready after `from` others, up to `to`, go into the heap of k.
@@ -38,11 +34,7 @@ pub fn push_arrivals(work: &mut [u64], a: Areas, n: usize, from: usize, to: usiz
     requires { Pushing a n from to k work.old }
     ensures { PushedAll a from to k work.old work.new }
 {
-    let mut j = from;
-    let mut held = k;
-    while j < to {
-        push_arrival(work, a, n, j, held);
-        j += 1;
-        held += 1;
+    for j in from..to {
+        push_arrival(work, a, n, j, k + (j - from));
     }
 }

@@ -1,12 +1,11 @@
 -- One link taken off.
-use mathlib.Core.Path.{◌≡◌, refl, sym, ap, ◌∙◌}
+use mathlib.Core.Path.{◌≡◌, refl, ◌∙◌}
 use Prim.Native.Nat.{ℕ, zero, suc, ◌+◌, ◌-◌, ◌≤◌, ◌<◌, max}
 use mathlib.Core.List.{List, [], ◌∷◌, ◌++◌}
 use mathlib.Core.Bool.{Bool, true, false}
 use native.Mathlib.Nat.{add-zero}
 use native.Mathlib.Omega.{arith}
 use lib.ListN.{length, get_or, set, length-set, length-append}
-use lib.Seq.{set-get_or}
 use lib.Dec.{eqb}
 use borrow.Author.Tests.{ne_eqb}
 use mir.Val.{bool_byte}
@@ -14,10 +13,10 @@ use Rattle.lists.specs.Lists.{pick}
 use Rattle.regions.specs.Region.{region, ceiling, Kept}
 use Rattle.regions.proofs.Laws.{region-at, region-in, region-under, region-over, region-push}
 use Rattle.regions.proofs.Bounds.{ceiling-append}
-use Rattle.regions.proofs.Frame.{kept-all, kept_then, kept_set}
+use Rattle.regions.proofs.Frame.{kept_then, kept_set}
 use Rattle.work.specs.declared.Areas.{Areas}
 use Rattle.work.specs.Views.{waiting_in}
-use Rattle.order_release.specs.Release.{Arrivals, released, waiting, arrivals_of, Arrives, Releasing}
+use Rattle.order_release.specs.Release.{Arrivals, released, waiting, Arrives, Releasing}
 
 -- ---- how many wait and how many are ready
 
@@ -84,12 +83,6 @@ module _ {a : Areas} {at m c : ℕ} {w : List ℕ} (s : Releasing a at m c w) wh
   -- while a node waits, not all have arrived
   pub release-room : (word ≡ 0 → ⊥) → m < a.nodes
   release-room e = omega (arith, waiting-some counts c (λ z. e (word-at ∙ z)))
-
-  pub release-none : word ≡ 0 → Arrives a at m m (released c) w w
-  release-none e =
-      let z : get_or counts c 0 ≡ 0 = sym word-at ∙ e in
-      let same : set counts c 0 ≡ counts = rw z at (set-get_or counts c 0) in
-      record { kept = kept-all; arrivals = rw (z, same) }
 
   -- c stands behind those that have arrived
   module _ (e : word ≡ 0 → ⊥) where

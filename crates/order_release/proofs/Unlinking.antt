@@ -1,17 +1,17 @@
 -- All links of a placed node taken off.
-use mathlib.Core.Path.{◌≡◌, refl, sym, ap, ◌∙◌}
+use mathlib.Core.Path.{◌≡◌, sym, ap, ◌∙◌}
 use Prim.Native.Nat.{ℕ, ◌+◌, ◌≤◌, ◌<◌}
 use mathlib.Core.List.{List}
 use native.Mathlib.Omega.{arith}
 use lib.ListN.{length, take}
 use Rattle.regions.specs.Region.{region, ceiling, Kept}
 use Rattle.regions.proofs.Laws.{region-length}
-use Rattle.regions.proofs.Frame.{kept-all, kept_then}
+use Rattle.regions.proofs.Frame.{kept_then}
 use Rattle.work.specs.declared.Areas.{Areas}
 use Rattle.work.specs.Views.{waiting_in}
 use Rattle.model_orders.specs.Object.{Link}
 use Rattle.order_graph.specs.Graph.{graph_on, links_at, links_after, link_count, FromLink, FieldOf}
-use Rattle.order_graph.proofs.Links.{links-in, links-read, links-none, front_kept, stands-kept, from-kept}
+use Rattle.order_graph.proofs.Links.{links-read, links-none, front_kept, stands-kept, from-kept}
 use Rattle.order_release.specs.Release.{Arrivals, released, released_all, waiting, arrivals_of, Arrives, Live, ReleasedAll}
 use Rattle.order_release.proofs.Releasing.{released-same, released-ceiling}
 
@@ -27,9 +27,6 @@ pub record Unlinking (a : Areas) (at n i t m m' : ℕ) (w₀ w : List ℕ) : Typ
 module _ {a : Areas} {at n i m : ℕ} {w₀ : List ℕ} (v : Live a at n m w₀) (h : i < n) where
   abbrev front : List ℕ
   front = take a.keys w₀
-
-  pub unlinking-none : Unlinking a at n i 0 m m w₀ w₀
-  unlinking-none = record { some = omega arith; kept = kept-all; left = rw (links-in a n front i h); same = refl; ids = v.ids; more = omega arith }
 
   module _ {t m' : ℕ} {w : List ℕ} (s : Unlinking a at n i t m m' w₀ w) where
     front_same : take a.keys w ≡ front

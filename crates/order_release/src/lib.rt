@@ -1,19 +1,11 @@
 // The links of a placed node taken off: who becomes ready by it, and when. Those that have become ready stand one behind the other in an area of the caller's choice.
 #![tactic(auto)]
 
-ghost use Rattle.std.specs.Prelude.{◌≡◌, ◌≤◌, ◌<◌, eqb};
-ghost use Rattle.lists.specs.Lists.{pick};
+ghost use Rattle.std.specs.Prelude.{◌≤◌, ◌<◌};
 ghost use Rattle.order_release.specs.Release.{released, Arrives, Releasing, Live, ReleasedAll};
 
 use order_graph::{field_from, link_count, links_at};
 use work::Areas;
-
-// 1 if a node that waits for so many links waits for its last one, else 0.
-fn last_one(waits: u64) -> usize
-    ensures { result ≡ pick (eqb waits 1) 1 0 }
-{
-    (waits == 1) as usize
-}
 
 // One incoming link of c less; the answer is how many have arrived then. c is stored behind those in any case, and counted if it is ready: no processor can foretell which
 // nodes are.
@@ -28,7 +20,7 @@ fn release(work: &mut [u64], a: Areas, at: usize, c: usize, m: usize) -> usize
     }
     work[j] = v - 1;
     work[at + m] = c as u64;
-    m + last_one(v)
+    m + usize::from(v == 1)
 }
 
 // Every link of node i, which is placed; the answer is how many have arrived then.
@@ -39,11 +31,9 @@ pub fn release_all(work: &mut [u64], a: Areas, at: usize, n: usize, i: usize, m:
     let count = link_count(work, a, n, i);
     let from = links_at(work, a, n, i);
     let mut arrived = m;
-    let mut t = 0;
-    while t < count {
+    for t in 0..count {
         let f = field_from(work, a, n, i, t, from);
         arrived = release(work, a, at, f.child, arrived);
-        t += 1;
     }
     arrived
 }

@@ -2,7 +2,7 @@
 use mathlib.Core.Path.{◌≡◌, sym, ap, ◌∙◌}
 use Prim.Native.Nat.{ℕ, suc, ◌+◌, ◌-◌, ◌*◌, ◌≤◌, ◌<◌}
 use mathlib.Core.List.{List, [], ◌∷◌}
-use mathlib.Core.Bool.{Bool, false, not}
+use mathlib.Core.Bool.{Bool, true}
 use native.Mathlib.Omega.{arith}
 use native.Mathlib.Decide.{dec_le}
 use lib.ListN.{length, get_or, set, take}
@@ -31,8 +31,8 @@ use Rattle.order_graph.specs.Graph.{graph_on, most_size}
 use Rattle.order_graph.proofs.Links.{size_in}
 use Rattle.order_graph.proofs.Nodes.{counted_same}
 use Rattle.order_survey.specs.Survey.{Lines, Distanced, DistancesFound}
-use Rattle.order_fit.specs.declared.Look.{Look}
-use Rattle.order_fit.specs.declared.Look.TheVariants.{Over}
+use Rattle.std.specs.Prelude.{Err}
+use Rattle.order_fit.specs.Fit.{Look}
 use Rattle.order_copies.specs.Copy.{child_in, CopyingChild, ChildCopied}
 use Rattle.order.specs.Try.{Tried}
 use Rattle.order.specs.declared.By.TheVariants as By
@@ -61,8 +61,8 @@ module _ {a : Areas} {n most root : ℕ} {g : Graph} {z : Grown} {nodes links si
       omega (arith, v.size_is, line-few, ap (λ (h : Graph). total h.size z.line) v.same, total-most (graph_on a nodes w).size z.line light)
 
 module _ {a : Areas} {n most root : ℕ} {g : Graph} {z : Grown} {nodes links size left r : ℕ} {look : Look} {w : List ℕ}
-    (s : Turned a n most root g z nodes links size left r look w) {u : Overflow} (e : look ≡ Over u)
-    {can : Bool} (told : can ≡ can_copy a nodes w u left) (b : not can ≡ false) where
+    (s : Turned a n most root g z nodes links size left r look w) {u : Overflow} (e : look ≡ Err u)
+    {can : Bool} (told : can ≡ can_copy a nodes w u left) (b : can ≡ true) where
   abbrev v : GrownIn a n most root g z nodes links size left w
   v = s.stands
 
@@ -254,7 +254,7 @@ module _ {a : Areas} {n most root : ℕ} {g : Graph} {z : Grown} {nodes links si
 
 module _ {a : Areas} {n most root copies nodes links size left r : ℕ} {look : Look} {w₀ w w' : List ℕ}
     (t : Turn a n most root copies nodes links size left w₀ w) (q : Tried a nodes root By.Space r look w w')
-    {u : Overflow} (e : look ≡ Over u) {can : Bool} (told : can ≡ can_copy a nodes w' u left) (b : not can ≡ false) {more links' : ℕ} {w₁ w₂ : List ℕ}
+    {u : Overflow} (e : look ≡ Err u) {can : Bool} (told : can ≡ can_copy a nodes w' u left) (b : can ≡ true) {more links' : ℕ} {w₁ w₂ : List ℕ}
     (c : ChildCopied a n nodes links r u.parent.0 u.field more links' w' w₁) (f : DistancesFound a (nodes + 1) root (r + 1) w₁ w₂) where
   pub turn-next : Turn a n most root copies (nodes + 1) links' (size + more) (left - 1) w₀ w₂
   turn-next =

@@ -24,9 +24,8 @@ use Rattle.order_graph.proofs.Links.{links-in, front_kept, stands-kept}
 use Rattle.order_survey.specs.Survey.{far_away, Surveyed, Distanced}
 use Rattle.order_survey.proofs.Distances.{node-links}
 use Rattle.order_grow.proofs.Alike.{after-all, length_from}
-use Rattle.order.specs.Try.{Trying}
-use Rattle.order.specs.declared.By.TheVariants as By
 use Rattle.order_resolve.specs.Resolve.{Arranging, Distances, Spaces, by_spaces}
+use Rattle.order_resolve.specs.declared.Objects.{Objects}
 
 -- z stands in the memory, grown from g, which has n nodes; there is room for so many copies more, with at most `most` links each
 pub record GrownIn (a : Areas) (n most root : ℕ) (g : Graph) (z : Grown) (nodes links size left : ℕ) (w : List ℕ) : Type 0 where
@@ -63,7 +62,16 @@ pub record Turn (a : Areas) (n most root copies nodes links size left : ℕ) (w�
 pub links-long : (a : Areas) (n : ℕ) (w : List ℕ) (i : ℕ) → i < n → length ((graph_on a n w).links i) ≡ link_count a (take a.keys w) i
 links-long a n w i h = rw (links-in a n (take a.keys w) i h, after-all a (take a.keys w) i) (length_from (take a.keys w) _ _)
 
-module _ {a : Areas} {n most root size copies : ℕ} {w : List ℕ} (s : Arranging a n most root size copies w) where
+module _ {a : Areas} {o : Objects} {w : List ℕ} (s : Arranging a o w) where
+  abbrev n : ℕ
+  n = o.nodes
+
+  abbrev most : ℕ
+  most = o.links
+
+  abbrev root : ℕ
+  root = o.root
+
   abbrev g : Graph
   g = graph_on a n w
 
@@ -83,7 +91,7 @@ module _ {a : Areas} {n most root size copies : ℕ} {w : List ℕ} (s : Arrangi
   owned-first : Owned a n n w
   owned-first = record { room = omega arith; object = λ i h. rw (lt-ltb i n h) h }
 
-  pub turn-first : Distances a n root w → Spaces a n root w → Turn a n most root copies n most size copies w w
+  pub turn-first : Distances a n root w → Spaces a n root w → Turn a n most root o.copies n most o.size o.copies w w
   unfolding table_length
   turn-first d t =
       record {
@@ -168,6 +176,3 @@ module _ {a : Areas} {n most root : ℕ} {g : Graph} {z : Grown} {nodes links si
       let z = v.graph.apart in
       grown-same k (omega arith) (kept-below k a.incoming a.nodes (omega arith)) (kept_above k a.spaces a.nodes (omega arith))
       (kept_above k a.origins a.copies (omega arith))
-
-pub turn-trying : {a : Areas} {n most root copies nodes links size left : ℕ} {w₀ w : List ℕ} → Turn a n most root copies nodes links size left w₀ w → Trying a nodes root By.Space w
-turn-trying t = record { nodes = t.grown.line; surveyed = grown-surveyed t.stands; asked = (t.distanced.near, t.stands.few) }

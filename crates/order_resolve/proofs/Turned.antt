@@ -2,11 +2,10 @@
 use mathlib.Core.Path.{◌≡◌, refl, sym, ap, subst, ◌∙◌}
 use Prim.Native.Nat.{ℕ, ◌<◌}
 use mathlib.Core.List.{List, [], ◌∷◌}
-use mathlib.Core.Bool.{Bool, true, false, not}
+use mathlib.Core.Bool.{Bool, true, false}
 use native.Mathlib.Omega.{arith}
 use lib.ListN.{get_or}
 use lib.Dec.{eqb}
-use borrow.Author.Tests.{not-true, not-false}
 use Rattle.lists.specs.Lists.{pick}
 use Rattle.regions.specs.Region.{Kept}
 use Rattle.regions.proofs.Frame.{kept_then, kept_less}
@@ -29,8 +28,8 @@ use Rattle.model_orders.proofs.Resolving.{resolve-placed, resolve-alone, resolve
 use Rattle.work.specs.Views.{order_in, distances_in}
 use Rattle.work.specs.declared.Areas.{Areas}
 use Rattle.order_graph.specs.Graph.{graph_on}
-use Rattle.order_fit.specs.declared.Look.{Look}
-use Rattle.order_fit.specs.declared.Look.TheVariants.{Fits, Over}
+use Rattle.std.specs.Prelude.{Ok, Err}
+use Rattle.order_fit.specs.Fit.{Look}
 use Rattle.order_copies.specs.Copy.{FieldAt, AtField, child_in}
 use Rattle.order.specs.Try.{key_by, look_of, Tried}
 use Rattle.order.specs.declared.By.TheVariants as By
@@ -80,12 +79,12 @@ module _ {a : Areas} {n most root copies nodes links size left r : ℕ} {look : 
 
 -- ---- what is told
 
-look_none : (us : List Overflow) → Fits ≡ look_of us → us ≡ []
+look_none : (us : List Overflow) → Ok tt ≡ look_of us → us ≡ []
 look_none [] e = refl
-look_none (u ∷ us) e = absurd (let q : ◌≡◌ {A = ℕ} 0 1 = cc in omega arith)
+look_none (u ∷ us) e = cc
 
-look-some : (us : List Overflow) {u : Overflow} → Over u ≡ look_of us → (vs : List Overflow) × (us ≡ u ∷ vs)
-look-some [] e = absurd (let q : ◌≡◌ {A = ℕ} 0 1 = cc in omega arith)
+look-some : (us : List Overflow) {u : Overflow} → Err u ≡ look_of us → (vs : List Overflow) × (us ≡ u ∷ vs)
+look-some [] e = cc
 look-some (v ∷ us) {u} e = let q : v ≡ u = cc in (us, ap (λ (x : Overflow). x ∷ us) q)
 
 field_at : {at : ℕ} {ls : List Link} → Field at ls → FieldAt at ls
@@ -117,10 +116,10 @@ module _ {a : Areas} {n most root : ℕ} {g : Graph} {z : Grown} {nodes links si
         fitting = f;
       }
 
-  turned-fits : look ≡ Fits → comes ≡ fitting z order
+  turned-fits : look ≡ Ok tt → comes ≡ fitting z order
   turned-fits e = resolve-placed (space_in g root) root z left (look_none _ (sym e ∙ s.found))
 
-  fits-ended : look ≡ Fits → ArrangedIn a n (fitting z order) (record { nodes = nodes; length = size; placed = r; look = look }) w
+  fits-ended : look ≡ Ok tt → ArrangedIn a n (fitting z order) (record { nodes = nodes; length = size; placed = r; look = look }) w
   fits-ended e = turned-ends e (λ o f. let q : order ≡ o = cc in rw (← q) s.order)
 
   -- the nodes of the order are those of the line
@@ -128,7 +127,7 @@ module _ {a : Areas} {n most root : ℕ} {g : Graph} {z : Grown} {nodes links si
   unfolding space_order
   order-bag c = order-counts z.origin (grown_key (space_in g root) root z) z.graph s.stands.grew.ranked z.line root s.stands.grew.rooted c
 
-  module _ {u : Overflow} (e : look ≡ Over u) where
+  module _ {u : Overflow} (e : look ≡ Err u) where
     pub first-misfit : (vs : List Overflow) × (misfits (space_in g root) root z ≡ u ∷ vs)
     first-misfit = look-some _ (sym e ∙ s.found)
 
@@ -153,22 +152,22 @@ module _ {a : Areas} {n most root : ℕ} {g : Graph} {z : Grown} {nodes links si
       unfolding shared
       can-is = told ∙ rw (child-same, s.stands.incoming (child_of z u))
 
-      pub over-copies : not can ≡ false → (0 < left) × (shared z u ≡ true)
-      over-copies b = go (zero_or left) (sym can-is ∙ not-false can b)
+      pub over-copies : can ≡ true → (0 < left) × (shared z u ≡ true)
+      over-copies b = go (zero_or left) (sym can-is ∙ b)
         where
           go : Zero left → pick (eqb left 0) false (shared z u) ≡ true → (0 < left) × (shared z u ≡ true)
-          go (none h f) k = absurd (let q : false ≡ true = rw f at k in let z : ◌≡◌ {A = ℕ} 0 1 = cc in omega arith)
+          go (none h f) k = let q = rw f at k in cc
           go (some h f) k = (h, rw f at k)
 
-      over-failing : not can ≡ true → comes ≡ failing z u
-      over-failing b = go (zero_or left) (sym can-is ∙ not-true can b)
+      over-failing : can ≡ false → comes ≡ failing z u
+      over-failing b = go (zero_or left) (sym can-is ∙ b)
         where
           go : Zero left → pick (eqb left 0) false (shared z u) ≡ false → comes ≡ failing z u
           go (none h f) k = rw h (resolve-spent (space_in g root) root z first-misfit.1)
           go (some h f) k = resolve-alone (space_in g root) root z first-misfit.1 left (rw f at k)
 
-    over-ended : {last : Look} → last ≡ Over (told_in a n w u) → ArrangedIn a n (failing z u) (record { nodes = nodes; length = size; placed = r; look = last }) w
-    over-ended f = turned-ends (f ∙ rw (s.stands.origins u.parent.0 parent_in)) (λ o k. absurd (let q : ◌≡◌ {A = ℕ} 0 1 = cc in omega arith))
+    over-ended : ArrangedIn a n (failing z u) (record { nodes = nodes; length = size; placed = r; look = Err (told_in a n w u) }) w
+    over-ended = turned-ends (rw (s.stands.origins u.parent.0 parent_in)) (λ o k. cc)
 
 -- ---- the end
 
@@ -178,10 +177,9 @@ module _ {a : Areas} {n most root copies nodes links size left r : ℕ} {look : 
       → Arranges a n (by_spaces copies (graph_on a n w₀) n root) last w₀ w'
   turn-ends e d = rw (t.rest ∙ e) (record { kept = tried-kept t q; done = d })
 
-  pub turn-fits : {last : Arranged} → look ≡ Fits → last ≡ record { nodes = nodes; length = size; placed = r; look = look }
-      → Arranges a n (by_spaces copies (graph_on a n w₀) n root) last w₀ w'
-  turn-fits e f = let s = turn-tried t q in turn-ends (turned-fits s e) (rw f (fits-ended s e))
+  pub turn-fits : look ≡ Ok tt → Arranges a n (by_spaces copies (graph_on a n w₀) n root) (record { nodes = nodes; length = size; placed = r; look = look }) w₀ w'
+  turn-fits e = let s = turn-tried t q in turn-ends (turned-fits s e) (fits-ended s e)
 
-  pub turn-fails : {u : Overflow} {can : Bool} {lastly : Look} {last : Arranged} → look ≡ Over u → can ≡ can_copy a nodes w' u left → not can ≡ true
-      → lastly ≡ Over (told_in a n w' u) → last ≡ record { nodes = nodes; length = size; placed = r; look = lastly } → Arranges a n (by_spaces copies (graph_on a n w₀) n root) last w₀ w'
-  turn-fails e k b f d = let s = turn-tried t q in turn-ends (over-failing s e k b) (rw d (over-ended s e f))
+  pub turn-fails : {u : Overflow} {can : Bool} {lastly : Overflow} → look ≡ Err u → can ≡ can_copy a nodes w' u left → can ≡ false → lastly ≡ told_in a n w' u
+      → Arranges a n (by_spaces copies (graph_on a n w₀) n root) (record { nodes = nodes; length = size; placed = r; look = Err lastly }) w₀ w'
+  turn-fails e k b f = let s = turn-tried t q in rw f (turn-ends (over-failing s e k b) (over-ended s e))

@@ -1,6 +1,6 @@
 -- docs/RULES.md, 7.9 and 7.13 to 7.17, in the work memory: what the orders come to, with copies made while the last one does not fit. The first n nodes are
 -- objects.
-use Rattle.std.specs.Prelude.{ℕ, ◌+◌, ◌-◌, ◌*◌, ◌≤◌, ◌<◌, ◌≡◌, List, Bool, false, length, get_or, eqb, ltb}
+use Rattle.std.specs.Prelude.{ℕ, ◌+◌, ◌-◌, ◌*◌, ◌≤◌, ◌<◌, ◌≡◌, List, Bool, false, length, get_or, eqb, ltb, Ok, Err}
 use Rattle.lists.specs.Lists.{pick}
 use Rattle.regions.specs.Region.{ceiling, Kept}
 use Rattle.answer.specs.declared.Overflow.{Overflow}
@@ -15,9 +15,9 @@ use Rattle.work.specs.declared.Areas.{Areas}
 use Rattle.order_graph.specs.Graph.{graph_on, most_nodes, Stands, Taken, Parted, Owned, object_of}
 use Rattle.order_survey.specs.Survey.{Surveyed, Distanced, FewIncoming}
 use Rattle.order_place.specs.Place.{OrderIds}
-use Rattle.order_fit.specs.declared.Look.{Look}
-use Rattle.order_fit.specs.declared.Look.TheVariants.{Fits, Over}
+use Rattle.order_fit.specs.Fit.{Look}
 use Rattle.order_copies.specs.Copy.{child_in}
+use Rattle.order_resolve.specs.declared.Objects.{Objects}
 use Rattle.order_resolve.specs.declared.Arranged.{Arranged}
 
 -- ---- what is asked
@@ -29,13 +29,13 @@ pub record CopyRoom (a : Areas) (n links copies : ℕ) : Type 0 where
   pub link-room : a.links + (links + copies * links) * packed_words ≤ a.keys
 
 -- the objects' graph, surveyed from the root; its links are the first ones
-pub record Arranging (a : Areas) (n links root size copies : ℕ) (w : List ℕ) : Type 0 where
-  pub surveyed : Surveyed a n root (reached (graph_on a n w) root) w
-  pub acyclic : Acyclic (graph_on a n w)
-  pub size_is : size ≡ table_length (graph_on a n w) root
-  pub taken : Taken a n links w
-  pub parted : Parted a n w
-  pub room : CopyRoom a n links copies
+pub record Arranging (a : Areas) (o : Objects) (w : List ℕ) : Type 0 where
+  pub surveyed : Surveyed a o.nodes o.root (reached (graph_on a o.nodes w) o.root) w
+  pub acyclic : Acyclic (graph_on a o.nodes w)
+  pub size_is : o.size ≡ table_length (graph_on a o.nodes w) o.root
+  pub taken : Taken a o.nodes o.links w
+  pub parted : Parted a o.nodes w
+  pub room : CopyRoom a o.nodes o.links o.copies
   pub small : FewIncoming a w
 
 -- what is known besides once the kahn order has failed: the distances; once the shortest-distance order has: the spaces
@@ -59,8 +59,8 @@ can_copy a nodes w u left = pick (eqb left 0) false (ltb 1 (get_or (incoming_in 
 -- ---- what is done
 
 abbrev pub look_in : Outcome → Look
-look_in (placed o) = Fits
-look_in (overflow u) = Over u
+look_in (placed o) = Ok tt
+look_in (overflow u) = Err u
 
 -- order o of graph g, of r of the nodes, stands in the memory with its places
 pub record PlacedIn (a : Areas) (g : Graph) (o : List ℕ) (nodes r : ℕ) (w : List ℕ) : Type 0 where

@@ -1,17 +1,18 @@
 -- The sets numbered one position after the other.
 use mathlib.Core.Path.{◌≡◌, refl, sym, ap, ◌∙◌}
-use Prim.Native.Nat.{ℕ, suc, ◌+◌, ◌≤◌, ◌<◌}
+use Prim.Native.Nat.{ℕ, suc, ◌+◌, ◌≤◌, ◌<◌, max}
 use mathlib.Core.List.{List}
 use native.Mathlib.Omega.{arith}
+use native.Mathlib.Decide.{dec_le}
 use native.Mathlib.Numerals.{add-one}
 use lib.ListN.{get_or, set}
 use lib.Seq.{get_or-set_same, get_or-set_other}
-use borrow.Author.Tests.{eq-eqb, ne_eqb}
+use borrow.Author.Tests.{ne_eqb}
 use Rattle.regions.specs.Region.{ceiling, Kept, Filling}
 use Rattle.regions.proofs.Laws.{region-length, region-at, region-in}
 use Rattle.regions.proofs.Bounds.{ceiling-set, ceiling-replicate}
 use Rattle.regions.proofs.Frame.{kept-all, kept_then, kept_set, kept_less, kept-below}
-use Rattle.model_orders.specs.Labels.{begun, numbers, Settled}
+use Rattle.model_orders.specs.Labels.{begun, Settled}
 use Rattle.model_orders.proofs.Bags.{Same, same, other, same_or}
 use Rattle.model_orders.proofs.Labels.{begun-own, begun-other, begun-low, begun-rises, number_at}
 use Rattle.work.specs.Views.{order_in, bosses_in, spaces_in}
@@ -36,9 +37,6 @@ module _ {a : Areas} {n r t : ℕ} {w : List ℕ} (h : t < r) (s : Bossed a n r 
 
   pub boss-node : get_or w (a.order + boss) 0 < a.nodes
   boss-node = omega (arith, node_in s.ordered boss (omega (arith, boss-low)), s.ordered.graph.tidy.nodes)
-
-  pub number-next : (next : ℕ) → boss ≡ t → next ≡ number_by (bosses_in a r w) (order_in a r w) (spaces_in a w) t next
-  number-next next e = rw (eq-eqb (get_or (bosses_in a r w) t 0) t (sym boss-is ∙ e))
 
   pub number-old : (next : ℕ) → (boss ≡ t → ⊥) → get_or w (a.spaces + get_or w (a.order + boss) 0) 0 ≡ number_by (bosses_in a r w) (order_in a r w) (spaces_in a w) t next
   number-old next d =
@@ -130,15 +128,28 @@ module _ {a : Areas} {n r : ℕ} {w₀ : List ℕ} (s : Numbering a n r w₀) wh
                 ∙ c.done j (omega (arith, d))
 
         -- a lower number is an earlier set's
-        pub counting-old : v < next → Counting a r (t + 1) next w₀ (set w (a.spaces + node) v)
-        counting-old l = stored next (c.count ∙ rw add-one (sym (begun-other labels t (λ f. omega (arith, value, c.count, ap (begun labels) f)))))
+        old : v < next → next ≡ begun labels (t + 1)
+        old l = c.count ∙ rw add-one (sym (begun-other labels t (λ f. omega (arith, value, c.count, ap (begun labels) f))))
 
-        pub counting-new : next ≤ v → Counting a r (t + 1) (next + 1) w₀ (set w (a.spaces + node) v)
-        counting-new l = stored (next + 1) (rw (add-one next, add-one t) (ap suc c.count ∙ sym (begun-own labels t (go (same_or (get_or labels t 0) t)))))
+        own : next ≤ v → get_or labels t 0 ≡ t
+        own l = go (same_or (get_or labels t 0) t)
           where
             go : Same (get_or labels t 0) t → get_or labels t 0 ≡ t
             go (same f _ _) = f
             go (other d _ _) = absurd (omega (arith, value, c.count, begun-rises labels (get_or labels t 0) t (settled.own t) (omega (arith, d, settled.low t))))
+
+        new : next ≤ v → suc next ≡ begun labels (t + 1)
+        new l = rw (add-one t) (ap suc c.count ∙ sym (begun-own labels t (own l)))
+
+        pub counting-low : v ≤ t
+        counting-low = omega (arith, value, begun-low labels (get_or labels t 0), settled.low t)
+
+        pub counting-next : {next' : ℕ} → next' ≡ max next (v + 1) → Counting a r (t + 1) next' w₀ (set w (a.spaces + node) v)
+        counting-next {next'} q = go (dec_le next v)
+          where
+            go : Dec (next ≤ v) → Counting a r (t + 1) next' w₀ (set w (a.spaces + node) v)
+            go (yes l) = stored next' (omega (arith, q, new l, value, c.count, ap (begun labels) (own l)))
+            go (no l) = stored next' (omega (arith, q, old (omega arith)))
 
     pub counting-all : r ≤ t → NumberedAlong a r w₀ w
     counting-all h = record { kept = c.kept; small = c.small; numbers = λ j i. c.done j (omega arith) ∙ sym (number_at labels j) }

@@ -13,7 +13,7 @@ use Rattle.regions.proofs.Bounds.{ceiling-at, ceiling-set, ceiling-replicate}
 use Rattle.regions.proofs.Frame.{kept_then, kept_less}
 use Rattle.model_orders.specs.Bag.{count}
 use Rattle.model_orders.specs.Graph.{Graph}
-use Rattle.model_orders.specs.Labels.{numbers, Settled}
+use Rattle.model_orders.specs.Labels.{Settled}
 use Rattle.model_orders.specs.Space.{narrow_kids, near, spot, labels}
 use Rattle.model_orders.proofs.Spots.{map_at, spot_in, spot-at}
 use Rattle.model_orders.proofs.Spaces.{own-settled}

@@ -11,15 +11,12 @@ fn number_of(work: &[u64], a: Areas, n: usize, r: usize, t: usize, next: u64) ->
     requires { (t < r) × Bossed a n r work.now }
     ensures { result ≡ number_by (bosses_in a r work.now) (order_in a r work.now) (spaces_in a work.now) t next }
 {
-    let k = a.bosses + t;
-    let b = work[k] as usize;
+    let b = work[a.bosses + t] as usize;
     if b == t {
         return next;
     }
-    let j = a.order + b;
-    let i = work[j] as usize;
-    let s = a.spaces + i;
-    work[s]
+    let i = work[a.order + b] as usize;
+    work[a.spaces + i]
 }
 
 // Numbers the sets along the order, and stores each node's number.
@@ -27,19 +24,12 @@ fn number_along(work: &mut [u64], a: Areas, n: usize, r: usize)
     requires { Numbering a n r work.old }
     ensures { NumberedAlong a r work.old work.new }
 {
-    let mut next: u64 = 0;
-    let mut t = 0;
-    while t < r {
-        let j = a.order + t;
-        let i = work[j] as usize;
+    let mut next = 0;
+    for t in 0..r {
+        let i = work[a.order + t] as usize;
         let v = number_of(work, a, n, r, t, next);
-        let s = a.spaces + i;
-        work[s] = v;
-        t += 1;
-        if v < next {
-            continue;
-        }
-        next += 1;
+        work[a.spaces + i] = v;
+        next = next.max(v + 1);
     }
 }
 

@@ -1,5 +1,5 @@
 -- The first bosses stored one by one, and the sets joined from them on.
-use mathlib.Core.Path.{◌≡◌, refl, sym, ap, ◌∙◌}
+use mathlib.Core.Path.{◌≡◌, sym, ap, ◌∙◌}
 use Prim.Native.Nat.{ℕ, ◌+◌, ◌≤◌, ◌<◌}
 use mathlib.Core.List.{List, map-append}
 use native.Mathlib.Omega.{arith}
@@ -7,7 +7,7 @@ use native.Mathlib.Decide.{dec_le}
 use lib.ListN.{length, get_or, set, length-map, get_or-eq_default}
 use Rattle.regions.specs.Region.{Kept}
 use Rattle.regions.proofs.Laws.{region-at, region-push, region-next}
-use Rattle.regions.proofs.Frame.{kept-all, kept_then, kept_set, kept-below}
+use Rattle.regions.proofs.Frame.{kept_then, kept_set, kept-below}
 use Rattle.model_orders.proofs.Spots.{map_at}
 use Rattle.work.specs.Views.{order_in, spots_in, bosses_in}
 use Rattle.work.specs.declared.Areas.{Areas}
@@ -23,9 +23,6 @@ pub record Bossing (a : Areas) (r t : ℕ) (w₀ w : List ℕ) : Type 0 where
   pub some : t ≤ r
   pub kept : Kept a.bosses a.order w₀ w
   pub done : bosses_in a t w ≡ own_bosses (spots_in a w₀) (order_in a t w₀)
-
-pub bossing-none : (a : Areas) (r : ℕ) (w : List ℕ) → Bossing a r 0 w w
-bossing-none a r w = record { some = omega arith; kept = kept-all; done = refl }
 
 module _ {a : Areas} {n r t : ℕ} {w₀ w : List ℕ} (o : Ordered a n r w₀) (s : Bossing a r t w₀ w) where
   module _ (h : t < r) where
@@ -49,9 +46,6 @@ module _ {a : Areas} {n r t : ℕ} {w₀ w : List ℕ} (o : Ordered a n r w₀) 
               region-push a.bosses t w v (omega (arith, o.few, o.graph.long, s.kept.long))
               ∙ rw (s.done, e, x, region-next a.order t w₀ (omega (arith, o.few, o.graph.long)), map-append);
         }
-
-  pub bossing-all : r ≤ t → BossesSet a r w₀ w
-  bossing-all h = let e : t ≡ r = omega arith in record { kept = s.kept; bosses = rw e at s.done }
 
 -- ---- from the first bosses on
 

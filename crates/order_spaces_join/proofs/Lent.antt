@@ -8,17 +8,11 @@ use lib.Seq.{take_all}
 use Rattle.regions.specs.Region.{region}
 use Rattle.regions.proofs.Laws.{region-length}
 use Rattle.regions.proofs.Lent.{back, back-region, back-kept}
-use Rattle.order_merge.specs.Bosses.{Falls, Joins}
+use Rattle.order_merge.specs.Bosses.{Joins}
 use Rattle.order_spaces_join.specs.Join.{JoinedAt}
 
 whole : (b r : ℕ) → b + r - b ≡ r
 whole b r = omega arith
-
-pub lent-falls : (b r : ℕ) (w : List ℕ) → Falls (region b r w) → Falls (region b (b + r - b) w)
-lent-falls b r w f = rw (whole b r) f
-
-pub lent-long : (b r : ℕ) (w : List ℕ) → b + r ≤ length w → length (region b (b + r - b) w) ≡ r
-lent-long b r w h = rw (whole b r) (region-length b r w h)
 
 pub lent-joined : {b r x y : ℕ} {w v : List ℕ} → b + r ≤ length w → Joins x y (region b (b + r - b) w) v
     → JoinedAt b r x y w (take b w ++ (v ++ drop (b + r - b) (drop b w)))

@@ -2,7 +2,7 @@
 use mathlib.Core.Path.{◌≡◌, refl, sym, ap, ◌∙◌}
 use Prim.Native.Nat.{ℕ, zero, suc, ◌+◌, ◌-◌, ◌≤◌, ◌<◌}
 use mathlib.Core.List.{List, [], ◌∷◌, ◌++◌, map}
-use mathlib.Core.Bool.{Bool, true, false, not}
+use mathlib.Core.Bool.{not}
 use native.Mathlib.Omega.{arith}
 use lib.ListN.{length, get_or, take, drop, replicate}
 use lib.Dec.{eqb}
@@ -11,19 +11,20 @@ use Rattle.lists.specs.Lists.{pick}
 use Rattle.regions.specs.Region.{Kept}
 use Rattle.regions.proofs.Laws.{region-length, region-at}
 use Rattle.regions.proofs.Bounds.{ceiling-at}
-use Rattle.regions.proofs.Frame.{kept-all, kept_then, kept_less, kept-below}
+use Rattle.regions.proofs.Frame.{kept_then, kept_less, kept-below}
+use Rattle.model_orders.specs.Object.{widest}
 use Rattle.model_orders.specs.Labels.{merged, merge, join}
 use Rattle.model_orders.specs.Space.{narrow_of, narrow_kids}
 use Rattle.model_orders.proofs.Labels.{Merged, higher, stays, merged_or, join-joins}
 use Rattle.work.specs.Views.{order_in, spots_in, bosses_in}
 use Rattle.work.specs.declared.Areas.{Areas}
-use Rattle.order_graph.specs.Graph.{graph_on, links_at, links_after, link_count, FromLink}
+use Rattle.order_graph.specs.Graph.{graph_on, links_at, links_after, link_count, FromLink, RunFrom}
 use Rattle.order_graph.proofs.Links.{front_kept, from-kept}
 use Rattle.order_merge.specs.Bosses.{roots, Falls}
 use Rattle.order_spaces_near.specs.Near.{RunOf}
 use Rattle.order_spaces_join.specs.Join.{tied, tied_all, Tying, JoinedAt, TiedLinks, TiedAlong}
 use Rattle.order_spaces_near.proofs.Frames.{ordered-kept, order-kept, node_in, order-rest, order-done}
-use Rattle.order_spaces_near.proofs.Kids.{kids-all, kids-none, run-wide, run-narrow}
+use Rattle.order_spaces_near.proofs.Kids.{kids-none, run-kids, run-wide, run-narrow}
 
 -- ---- what is asked stays while bosses change
 
@@ -87,19 +88,16 @@ pub record Turning (a : Areas) (n r i x t : ℕ) (w₀ w : List ℕ) : Type 0 wh
       ≡ tied (spots_in a w₀) x (narrow_of (links_after a (take a.keys w₀) i t)) (roots (bosses_in a r w))
 
 module _ {a : Areas} {n r i x : ℕ} {w₀ : List ℕ} (h : i < n) (s : Tying a n r w₀) where
-  pub turning-none : Turning a n r i x 0 w₀ w₀
-  turning-none = record { some = omega arith; kept = kept-all; falls = s.falls; left = rw (kids-all a n (take a.keys w₀) i h) }
-
   module _ {t : ℕ} {w : List ℕ} (c : Turning a n r i x t w₀ w) where
     pub turning-link : {from : ℕ} → t < link_count a (take a.keys w₀) i → from ≡ links_at a (take a.keys w₀) i → FromLink a n i t from w
     turning-link l e = from-kept (record { graph = s.ordered.graph; inside = h }) c.kept (omega arith) l e
 
-    module _ {end child : ℕ} {narrows : Bool} (k : RunOf a n (take a.keys w) i t end child narrows) where
-      here : RunOf a n (take a.keys w₀) i t end child narrows
-      here = rw (front_kept s.ordered.graph c.kept (omega arith)) at k
+    module _ {end child width : ℕ} (k : RunFrom a n (take a.keys w) i t end child width) where
+      run : RunFrom a n (take a.keys w₀) i t end child width
+      run = rw (front_kept s.ordered.graph c.kept (omega arith)) at k
 
-      pub turning-more : (t < end) × (end ≤ link_count a (take a.keys w₀) i)
-      turning-more = (here.more, here.most)
+      abbrev here : RunOf a n (take a.keys w₀) i t end child (not (eqb width widest))
+      here = run-kids run
 
       abbrev spot : ℕ
       spot = get_or w (a.spots + child) 0
@@ -109,11 +107,8 @@ module _ {a : Areas} {n r i x : ℕ} {w₀ : List ℕ} (h : i < n) (s : Tying a 
           region-at a.spots a.nodes w child (omega (arith, here.known))
           ∙ ap (λ (m : List ℕ). get_or m child 0) (kept-below c.kept a.spots a.nodes (omega arith))
 
-      pub turning-inside : a.spots + child < a.waiting
-      turning-inside = omega (arith, here.known, s.ordered.graph.tidy.nodes)
-
-      pub turning-wide : not narrows ≡ true → Turning a n r i x end w₀ w
-      turning-wide e = record { some = here.most; kept = c.kept; falls = c.falls; left = c.left ∙ rw (here.kids, run-wide here e) }
+      pub turning-wide : width ≡ widest → Turning a n r i x end w₀ w
+      turning-wide e = record { some = here.most; kept = c.kept; falls = c.falls; left = c.left ∙ rw (here.kids, run-wide run e) }
 
       -- a child in space 0 joins nothing
       pub turning-near : spot ≡ 0 → Turning a n r i x end w₀ w
@@ -129,9 +124,9 @@ module _ {a : Areas} {n r i x : ℕ} {w₀ : List ℕ} (h : i < n) (s : Tying a 
       turning-asks b =
           (b, omega (arith, spot_is, spot-low s here.known), omega (arith, s.ordered.few, s.ordered.graph.long, c.kept.long), c.falls)
 
-      pub turning-join : {w' : List ℕ} → not narrows ≡ false → (spot ≡ 0 → ⊥) → JoinedAt a.bosses r x spot w w' → Turning a n r i x end w₀ w'
+      pub turning-join : {w' : List ℕ} → (width ≡ widest → ⊥) → (spot ≡ 0 → ⊥) → JoinedAt a.bosses r x spot w w' → Turning a n r i x end w₀ w'
       turning-join e d j =
-          let often : here.times ≡ suc (here.times - 1) = omega (arith, run-narrow here e) in
+          let often : here.times ≡ suc (here.times - 1) = omega (arith, run-narrow run e) in
           record {
             some = here.most;
             kept = kept_then c.kept (kept_less j.kept a.bosses a.order (omega arith) (omega (arith, s.ordered.few)));
@@ -156,9 +151,6 @@ pub record Along (a : Areas) (n r t : ℕ) (w₀ w : List ℕ) : Type 0 where
       ≡ tied_all (graph_on a n w₀) (spots_in a w₀) (drop t (order_in a r w₀)) (roots (bosses_in a r w))
 
 module _ {a : Areas} {n r : ℕ} {w₀ : List ℕ} (s : Tying a n r w₀) where
-  pub along-none : Along a n r 0 w₀ w₀
-  along-none = record { some = omega arith; kept = kept-all; falls = s.falls; left = refl }
-
   module _ {t : ℕ} {w : List ℕ} (c : Along a n r t w₀ w) where
     module _ (h : t < r) where
       abbrev node : ℕ

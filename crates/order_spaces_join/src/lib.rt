@@ -7,9 +7,10 @@ ghost use Rattle.order_merge.specs.Bosses.{Falls};
 ghost use Rattle.order_spaces_near.specs.Near.{Ordered};
 ghost use Rattle.order_spaces_join.specs.Join.{Joining, Tying, BossesSet, JoinedAt, TiedLinks, TiedAlong, SetsJoined};
 
+use model_orders::WIDEST;
+use order_graph::run::run_from;
 use order_graph::{link_count, links_at};
 use order_merge::join;
-use order_spaces_near::kid::run_from;
 use work::Areas;
 
 // The first boss of each position: itself, or in space 0 position 0.
@@ -17,14 +18,9 @@ fn set_bosses(work: &mut [u64], a: Areas, n: usize, r: usize)
     requires { Ordered a n r work.old }
     ensures { BossesSet a r work.old work.new }
 {
-    let mut t = 0;
-    while t < r {
-        let j = a.order + t;
-        let i = work[j] as usize;
-        let k = a.spots + i;
-        let b = a.bosses + t;
-        work[b] = work[k];
-        t += 1;
+    for t in 0..r {
+        let i = work[a.order + t] as usize;
+        work[a.bosses + t] = work[a.spots + i];
     }
 }
 
@@ -33,8 +29,7 @@ fn join_at(work: &mut [u64], b: usize, r: usize, x: usize, y: usize)
     requires { (x < r) × (y < r) × (b + r ≤ length work.old) × Falls (region b r work.old) }
     ensures { JoinedAt b r x y work.old work.new }
 {
-    let e = b + r;
-    join(&mut work[b..e], x, y);
+    join(&mut work[b..b + r], x, y);
 }
 
 // Joins node i, at position x, with its children by narrow links that are outside space 0, and once with a child that several links in a row lead to.
@@ -48,11 +43,10 @@ fn join_links(work: &mut [u64], a: Areas, n: usize, r: usize, i: usize, x: usize
     while t < count {
         let run = run_from(work, a, n, i, t, from);
         t = run.end;
-        if !run.narrow {
+        if run.width == WIDEST {
             continue;
         }
-        let k = a.spots + run.child;
-        let y = work[k] as usize;
+        let y = work[a.spots + run.child] as usize;
         if y == 0 {
             continue;
         }
@@ -65,17 +59,12 @@ fn join_along(work: &mut [u64], a: Areas, n: usize, r: usize)
     requires { Tying a n r work.old }
     ensures { TiedAlong a n r work.old work.new }
 {
-    let mut t = 0;
-    while t < r {
-        let j = a.order + t;
-        let i = work[j] as usize;
-        t += 1;
-        let k = a.spots + i;
-        let x = work[k] as usize;
-        if x == 0 {
-            continue;
+    for t in 0..r {
+        let i = work[a.order + t] as usize;
+        let x = work[a.spots + i] as usize;
+        if x != 0 {
+            join_links(work, a, n, r, i, x);
         }
-        join_links(work, a, n, r, i, x);
     }
 }
 

@@ -2,23 +2,22 @@
 use mathlib.Core.Path.{◌≡◌, refl, sym, ◌∙◌}
 use Prim.Native.Nat.{ℕ, zero, suc, ◌+◌, ◌≤◌, ◌<◌}
 use mathlib.Core.List.{List, [], ◌∷◌}
-use mathlib.Core.Bool.{Bool, true, false}
 use native.Mathlib.Omega.{arith}
 use lib.ListN.{get_or, set, take, drop}
 use lib.Seq.{set-get_or}
 use borrow.Author.Tests.{eq-eqb, ne_eqb}
-use Rattle.lists.specs.Lists.{pick}
 use Rattle.regions.specs.Region.{Kept}
 use Rattle.regions.proofs.Laws.{region-at, region-in}
-use Rattle.regions.proofs.Frame.{kept-all, kept_then, kept_set}
+use Rattle.regions.proofs.Frame.{kept_then, kept_set}
+use Rattle.model_orders.specs.Object.{Link, widest}
 use Rattle.model_orders.specs.Space.{narrow_of, narrow_kids}
 use Rattle.work.specs.Views.{order_in, spots_in}
 use Rattle.work.specs.declared.Areas.{Areas}
-use Rattle.order_graph.specs.Graph.{graph_on, links_at, links_after, link_count, AtNode, FromLink}
-use Rattle.order_graph.proofs.Links.{front_kept, from-kept}
-use Rattle.order_spaces_near.specs.Near.{cleared, cleared_all, KidOf, Ordered, SpotsSet, ClearedLinks, ClearedAlong, Marked}
+use Rattle.order_graph.specs.Graph.{graph_on, links_after, link_count, AtNode, FieldOf}
+use Rattle.order_graph.proofs.Links.{front_kept}
+use Rattle.order_spaces_near.specs.Near.{cleared, cleared_all, Ordered, SpotsSet, ClearedLinks, ClearedAlong, Marked}
 use Rattle.order_spaces_near.proofs.Frames.{ordered-kept, order-kept, node_in, order-rest, order-done}
-use Rattle.order_spaces_near.proofs.Kids.{kids-all, kids-none, kid-narrow, kid-wide}
+use Rattle.order_spaces_near.proofs.Kids.{kids-none, kid-narrow, kid-wide}
 
 -- ---- a node's links: t of them are done
 
@@ -36,42 +35,26 @@ zero-kept (x ∷ l) (suc k) zero h = h
 zero-kept (x ∷ l) (suc k) (suc j) h = zero-kept l k j h
 
 module _ {a : Areas} {n i : ℕ} {w₀ : List ℕ} (s : AtNode a n i w₀) where
-  pub clearing-none : get_or w₀ (a.spots + i) 0 ≡ 0 → Clearing a n i 0 w₀ w₀
-  clearing-none z = record { some = omega arith; kept = kept-all; left = rw (kids-all a n (take a.keys w₀) i s.inside); own = z }
-
   module _ {t : ℕ} {w : List ℕ} (c : Clearing a n i t w₀ w) where
-    pub clearing-link : {from : ℕ} → t < link_count a (take a.keys w₀) i → from ≡ links_at a (take a.keys w₀) i → FromLink a n i t from w
-    clearing-link h e = from-kept s c.kept (omega arith) h e
+    module _ {l : Link} (r : FieldOf a n (take a.keys w) i t l) (h : t < link_count a (take a.keys w₀) i) where
+      here : FieldOf a n (take a.keys w₀) i t l
+      here = rw (front_kept s.graph c.kept (omega arith)) at r
 
-    here : {child : ℕ} {narrows : Bool} → KidOf a n (take a.keys w) i t child narrows → KidOf a n (take a.keys w₀) i t child narrows
-    here k = rw (front_kept s.graph c.kept (omega arith)) at k
-
-    chosen-known : {child : ℕ} (narrows : Bool) → KidOf a n (take a.keys w) i t child narrows → pick narrows child i < n
-    chosen-known true k = k.known
-    chosen-known false k = s.inside
-
-    pub clearing-inside : {child r : ℕ} {narrows : Bool} → KidOf a n (take a.keys w) i t child narrows → r ≡ pick narrows child i → a.spots + r < a.waiting
-    clearing-inside {narrows = b} k e = omega (arith, chosen-known b k, s.graph.tidy.nodes)
-
-    module _ (h : t < link_count a (take a.keys w₀) i) where
-      -- for a link that is not narrow the node itself gets the position that it has
-      clearing-chosen : {child : ℕ} (narrows : Bool) → KidOf a n (take a.keys w) i t child narrows
-          → Clearing a n i (t + 1) w₀ (set w (a.spots + pick narrows child i) 0)
+      pub clearing-narrow : (l.slot.width ≡ widest → ⊥) → Clearing a n i (t + 1) w₀ (set w (a.spots + l.child) 0)
       unfolding cleared
-      clearing-chosen {child} true k =
+      clearing-narrow d =
           record {
             some = omega arith;
-            kept = kept_then c.kept (kept_set a.spots a.waiting w (a.spots + child) 0 (omega arith) (omega (arith, k.known)));
-            left = c.left ∙ rw (kid-narrow (here k) h refl, cleared, region-in a.spots a.nodes w child 0 (omega (arith, k.known)));
-            own = zero-kept w (a.spots + child) (a.spots + i) c.own;
+            kept = kept_then c.kept (kept_set a.spots a.waiting w (a.spots + l.child) 0 (omega arith) (omega (arith, r.known)));
+            left = c.left ∙ rw (kid-narrow here h d, cleared, region-in a.spots a.nodes w l.child 0 (omega (arith, r.known)));
+            own = zero-kept w (a.spots + l.child) (a.spots + i) c.own;
           }
-      clearing-chosen false k =
-          let same : set w (a.spots + i) 0 ≡ w = rw c.own at (set-get_or w (a.spots + i) 0) in
-          rw same (record { some = omega arith; kept = c.kept; left = c.left ∙ rw (kid-wide (here k) h refl); own = c.own })
 
-      pub clearing-next : {child r : ℕ} {narrows : Bool} → KidOf a n (take a.keys w) i t child narrows → r ≡ pick narrows child i
-          → Clearing a n i (t + 1) w₀ (set w (a.spots + r) 0)
-      clearing-next {narrows = b} k e = rw e (clearing-chosen b k)
+      -- for a link that is not narrow the node itself gets the position that it has
+      pub clearing-wide : l.slot.width ≡ widest → Clearing a n i (t + 1) w₀ (set w (a.spots + i) 0)
+      clearing-wide e =
+          let same : set w (a.spots + i) 0 ≡ w = rw c.own at (set-get_or w (a.spots + i) 0) in
+          rw same (record { some = omega arith; kept = c.kept; left = c.left ∙ rw (kid-wide here h e); own = c.own })
 
     pub clearing-all : link_count a (take a.keys w₀) i ≤ t → ClearedLinks a n i w₀ w
     unfolding cleared
@@ -84,9 +67,6 @@ pub record Passing (a : Areas) (n r t : ℕ) (w₀ w : List ℕ) : Type 0 where
   pub kept : Kept a.spots a.waiting w₀ w
   pub left :
       cleared_all (graph_on a n w₀) (order_in a r w₀) (spots_in a w₀) ≡ cleared_all (graph_on a n w₀) (drop t (order_in a r w₀)) (spots_in a w)
-
-pub passing-none : (a : Areas) (n r : ℕ) (w : List ℕ) → Passing a n r 0 w w
-passing-none a n r w = record { some = omega arith; kept = kept-all; left = refl }
 
 module _ {a : Areas} {n r t : ℕ} {w₀ w : List ℕ} (o : Ordered a n r w₀) (s : Passing a n r t w₀ w) where
   module _ (h : t < r) where

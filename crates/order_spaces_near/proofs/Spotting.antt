@@ -1,12 +1,12 @@
 -- The positions stored one by one.
-use mathlib.Core.Path.{◌≡◌, refl, sym, ◌∙◌}
+use mathlib.Core.Path.{◌≡◌, sym, ◌∙◌}
 use Prim.Native.Nat.{ℕ, ◌+◌, ◌≤◌, ◌<◌}
 use mathlib.Core.List.{List}
 use native.Mathlib.Omega.{arith}
 use lib.ListN.{get_or, set, drop}
 use Rattle.regions.specs.Region.{Kept, Filling}
 use Rattle.regions.proofs.Laws.{region-in}
-use Rattle.regions.proofs.Frame.{kept-all, kept_then, kept_set, kept_less}
+use Rattle.regions.proofs.Frame.{kept_then, kept_set, kept_less}
 use Rattle.work.specs.Views.{order_in, spots_in}
 use Rattle.work.specs.declared.Areas.{Areas}
 use Rattle.order_spaces_near.specs.Near.{spots_from, Ordered, SpottedAlong, SpotsSet}
@@ -17,9 +17,6 @@ pub record Spotting (a : Areas) (r t : ℕ) (w₀ w : List ℕ) : Type 0 where
   pub some : t ≤ r
   pub kept : Kept a.spots a.waiting w₀ w
   pub left : spots_from (order_in a r w₀) 0 (spots_in a w₀) ≡ spots_from (drop t (order_in a r w₀)) t (spots_in a w)
-
-pub spotting-none : (a : Areas) (r : ℕ) (w : List ℕ) → Spotting a r 0 w w
-spotting-none a r w = record { some = omega arith; kept = kept-all; left = refl }
 
 module _ {a : Areas} {n r t : ℕ} {w₀ w : List ℕ} (o : Ordered a n r w₀) (s : Spotting a r t w₀ w) where
   module _ (h : t < r) where

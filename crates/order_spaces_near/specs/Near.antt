@@ -4,10 +4,10 @@ use Rattle.std.specs.Prelude.{ℕ, ◌+◌, ◌≤◌, ◌<◌, ◌≡◌, List,
 use Rattle.lists.specs.Lists.{pick}
 use Rattle.regions.specs.Region.{ceiling, Kept}
 use Rattle.model_orders.specs.Graph.{Graph, Once}
-use Rattle.model_orders.specs.Space.{narrow, narrow_of, narrow_kids}
+use Rattle.model_orders.specs.Space.{narrow_of, narrow_kids}
 use Rattle.work.specs.Views.{order_in, spots_in}
 use Rattle.work.specs.declared.Areas.{Areas}
-use Rattle.order_graph.specs.Graph.{link_of, link_count, links_after, graph_on, Stands}
+use Rattle.order_graph.specs.Graph.{link_count, links_after, graph_on, Stands}
 
 -- ---- positions
 
@@ -26,12 +26,7 @@ unfoldable pub cleared_all : Graph → List ℕ → List ℕ → List ℕ
 cleared_all g [] s = s
 cleared_all g (x ∷ o) s = cleared_all g o (pick (eqb (get_or s x 0) 0) (cleared (narrow_kids g x) s) s)
 
--- ---- a link
-
-pub record KidOf (a : Areas) (n : ℕ) (f : List ℕ) (i t child : ℕ) (narrows : Bool) : Type 0 where
-  pub child-is : child ≡ (link_of a f i t).child
-  pub known : child < n
-  pub narrow-is : narrows ≡ narrow (link_of a f i t)
+-- ---- links in a row
 
 -- the links from number t up to `end` lead to one child, and so many of them are narrow: some, or none
 pub record RunOf (a : Areas) (n : ℕ) (f : List ℕ) (i t end child : ℕ) (narrows : Bool) : Type 0 where

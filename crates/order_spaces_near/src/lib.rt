@@ -2,29 +2,22 @@
 #![tactic(auto)]
 
 ghost use Rattle.std.specs.Prelude.{◌≡◌, ◌+◌, get_or};
-ghost use Rattle.lists.specs.Lists.{pick};
 ghost use Rattle.order_graph.specs.Graph.{AtNode};
 ghost use Rattle.order_spaces_near.specs.Near.{Ordered, SpotsSet, SpottedAlong, ClearedLinks, ClearedAlong, Marked};
 
-use kid::kid_from;
-use order_graph::{link_count, links_at};
+use model_orders::WIDEST;
+use order_graph::{field_from, link_count, links_at};
 use regions::fill;
 use work::Areas;
-
-pub mod kid;
 
 // Stores the position of each node of the order.
 fn spot_along(work: &mut [u64], a: Areas, n: usize, r: usize)
     requires { Ordered a n r work.old }
     ensures { SpottedAlong a r work.old work.new }
 {
-    let mut t = 0;
-    while t < r {
-        let j = a.order + t;
-        let i = work[j] as usize;
-        let k = a.spots + i;
-        work[k] = t as u64;
-        t += 1;
+    for t in 0..r {
+        let i = work[a.order + t] as usize;
+        work[a.spots + i] = t as u64;
     }
 }
 
@@ -37,13 +30,6 @@ fn set_spots(work: &mut [u64], a: Areas, n: usize, r: usize)
     spot_along(work, a, n, r);
 }
 
-// x where the test holds, else y.
-fn chosen(t: bool, x: usize, y: usize) -> usize
-    ensures { result ≡ pick t x y }
-{
-    if t { x } else { y }
-}
-
 // The children of node i, which is at position 0, by narrow links get position 0. For a link that is not narrow node i gets it again: which links are narrow no processor can
 // foretell.
 fn clear_links(work: &mut [u64], a: Areas, n: usize, i: usize)
@@ -52,12 +38,10 @@ fn clear_links(work: &mut [u64], a: Areas, n: usize, i: usize)
 {
     let count = link_count(work, a, n, i);
     let from = links_at(work, a, n, i);
-    let mut t = 0;
-    while t < count {
-        let kid = kid_from(work, a, n, i, t, from);
-        let k = a.spots + chosen(kid.narrow, kid.child, i);
-        work[k] = 0;
-        t += 1;
+    for t in 0..count {
+        let f = field_from(work, a, n, i, t, from);
+        let x = if f.width == WIDEST { i } else { f.child };
+        work[a.spots + x] = 0;
     }
 }
 
@@ -66,16 +50,11 @@ fn clear_along(work: &mut [u64], a: Areas, n: usize, r: usize)
     requires { Ordered a n r work.old }
     ensures { ClearedAlong a n r work.old work.new }
 {
-    let mut t = 0;
-    while t < r {
-        let j = a.order + t;
-        let i = work[j] as usize;
-        t += 1;
-        let k = a.spots + i;
-        if work[k] != 0 {
-            continue;
+    for t in 0..r {
+        let i = work[a.order + t] as usize;
+        if work[a.spots + i] == 0 {
+            clear_links(work, a, n, i);
         }
-        clear_links(work, a, n, i);
     }
 }
 

@@ -15,8 +15,8 @@ use Rattle.model_orders.specs.Object.{Link}
 use Rattle.model_orders.specs.Distance.{weight, relax, relax_all, distances_by}
 use Rattle.work.specs.Views.{line_in, distances_in}
 use Rattle.work.specs.declared.Areas.{Areas}
-use Rattle.order_graph.specs.Graph.{graph_on, links_after, link_count, AtLink, FieldOf, EdgeOf}
-use Rattle.order_graph.proofs.Links.{links-in, links-next, links-none, front_kept, edge-read}
+use Rattle.order_graph.specs.Graph.{graph_on, most_weight, links_after, link_count, AtNode, AtLink, FieldOf, EdgeOf, Row, one, more, RunFrom}
+use Rattle.order_graph.proofs.Links.{links-in, links-next, links-none, front_kept, stands-kept, edge-read}
 use Rattle.order_survey.specs.Survey.{far_away, RunOf, Narrows, Lowering, Lowered, Along, LoweredAlong, DistancesSet}
 use Rattle.order_survey.proofs.Nodes.{along-kept, line-inside, line-node, line-left, line-done}
 
@@ -72,16 +72,22 @@ capacity-min v w = go (dec_le v w)
 
 -- by widths: the narrowest is the lightest
 module _ {a : Areas} {n i t : ℕ} {w : List ℕ} where
-  pub narrows-one : {l : Link} → AtLink a n i t w → FieldOf a n (take a.keys w) i t l → Narrows a n w i t (t + 1) l.child l.slot.width
+  narrows-one : {l : Link} → AtLink a n i t w → FieldOf a n (take a.keys w) i t l → Narrows a n w i t (t + 1) l.child l.slot.width
   narrows-one s f = record { run = run-one (edge-read s f refl) s.some; narrow = f.narrow }
 
-  pub narrows-next : {end child width least : ℕ} {l : Link} → Narrows a n w i t end child width → AtLink a n i end w → FieldOf a n (take a.keys w) i end l
+  narrows-next : {end child width least : ℕ} {l : Link} → Narrows a n w i t end child width → AtLink a n i end w → FieldOf a n (take a.keys w) i end l
       → l.child ≡ child → least ≡ min width l.slot.width → Narrows a n w i t (end + 1) child least
   narrows-next {end} {child} {width} {least} {l} r s f e q =
       let size : get_or w l.child 0 ≡ get_or w child 0 = rw e in
       let sum : get_or w child 0 + capacity least ≡ min (get_or w child 0 + capacity width) (get_or w l.child 0 + capacity l.slot.width) =
       rw q (omega (arith, capacity-min width l.slot.width)) in
       record { run = run-next r.run (edge-read s f refl) e sum s.some; narrow = omega (arith, r.narrow) }
+
+  narrows-row : {end child width : ℕ} → AtNode a n i w → Row a n (take a.keys w) i t end child width → end ≤ link_count a (take a.keys w) i
+      → Narrows a n w i t end child width
+  narrows-row s (one f e c q) h = rw (e, c, q) (narrows-one (record { node = s; some = omega arith }) f)
+  narrows-row s (more r f e c q) h =
+      rw e (narrows-next (narrows-row s r (omega arith)) (record { node = s; some = omega arith }) f (sym c) q)
 
 -- ---- the links of a node
 
@@ -102,9 +108,6 @@ module _ {a : Areas} {n i d : ℕ} {w₀ : List ℕ} (s : Lowering a n i d w₀)
     front : take a.keys w ≡ take a.keys w₀
     front = front_kept s.node.graph f.kept (omega arith)
 
-    pub lowers-inside : {x : ℕ} → x < n → a.distances + x < length w
-    lowers-inside h = omega arith
-
     lowers-run : {end x y v : ℕ} → RunOf a n (take a.keys w) i t end x y → v ≡ min (get_or w (a.distances + x) 0) (d + y)
         → Lowers a n i d end w₀ (set w (a.distances + x) v)
     lowers-run {end} {x} {y} {v} r q =
@@ -121,9 +124,16 @@ module _ {a : Areas} {n i d : ℕ} {w₀ : List ℕ} (s : Lowering a n i d w₀)
           bound = rw (z, near) (omega (arith, ceiling-least ds x (d + y)));
         }
 
-    pub lowers-narrows : {end x width room v : ℕ} → Narrows a n w i t end x width → room ≡ capacity width
+    lowers-narrows : {end x width : ℕ} → RunFrom a n (take a.keys w) i t end x width → Narrows a n w i t end x width
+    lowers-narrows r = narrows-row (record { graph = stands-kept s.node.graph f.kept (omega arith); inside = s.node.inside }) r.row r.most
+
+    -- a run weighs as much as any link
+    pub lowers-light : {end x width room : ℕ} → RunFrom a n (take a.keys w) i t end x width → room ≡ capacity width → get_or w x 0 + room < most_weight
+    lowers-light r e = rw e (lowers-narrows r).run.light
+
+    pub lowers-next-run : {end x width room v : ℕ} → RunFrom a n (take a.keys w) i t end x width → room ≡ capacity width
         → v ≡ min (get_or w (a.distances + x) 0) (d + (get_or w x 0 + room)) → Lowers a n i d end w₀ (set w (a.distances + x) v)
-    lowers-narrows r e q = lowers-run r.run (q ∙ rw e)
+    lowers-next-run r e q = lowers-run (lowers-narrows r).run (q ∙ rw e)
 
     pub lowers-next : {x y v : ℕ} → EdgeOf a n (take a.keys w) i t x y → v ≡ min (get_or w (a.distances + x) 0) (d + y)
         → t < link_count a (take a.keys w₀) i → Lowers a n i d (t + 1) w₀ (set w (a.distances + x) v)
@@ -149,9 +159,6 @@ pub record Follows (a : Areas) (n r t : ℕ) (w₀ w : List ℕ) : Type 0 where
   pub near : ceiling (distances_in a w) ≤ far_away + 1
 
 module _ {a : Areas} {n r : ℕ} {w₀ : List ℕ} (s : Along a n r w₀) where
-  pub follows-none : ceiling (distances_in a w₀) ≤ far_away + 1 → Follows a n r 0 w₀ w₀
-  follows-none h = record { some = omega arith; kept = kept-all; left = refl; near = h }
-
   module _ {t : ℕ} {w : List ℕ} (f : Follows a n r t w₀ w) where
     module _ (h : t < r) where
       abbrev node : ℕ
@@ -213,11 +220,9 @@ module _ {a : Areas} {n root r : ℕ} {w w₁ : List ℕ} (s : Along a n r w) (h
   distances-begun : distances_in a begun ≡ set (replicate a.nodes far_away) root 0
   distances-begun = region-in a.distances a.nodes w₁ root 0 (omega arith) ∙ rw f.done
 
-  pub begun-along : Along a n r begun
-  begun-along = along-kept s kept-begun
-
-  pub begun-near : ceiling (distances_in a begun) ≤ far_away + 1
-  begun-near = rw distances-begun (omega (arith, ceiling-set (replicate a.nodes far_away) root 0, ceiling-replicate a.nodes far_away))
+  pub begun-asks : Along a n r begun × (ceiling (distances_in a begun) ≤ far_away + 1)
+  begun-asks =
+      (along-kept s kept-begun, rw distances-begun (omega (arith, ceiling-set (replicate a.nodes far_away) root 0, ceiling-replicate a.nodes far_away)))
 
   pub begun-set : {w' : List ℕ} → LoweredAlong a n r begun w' → DistancesSet a n root r w w'
   unfolding distances_by

@@ -6,7 +6,7 @@ use native.Mathlib.Omega.{arith}
 use native.Mathlib.Numerals.{add-one}
 use lib.ListN.{get_or, drop, length, drop_of_length-le}
 use lib.Seq.{drop-cons}
-use Rattle.regions.specs.Region.{Kept}
+use Rattle.regions.specs.Region.{region, Kept}
 use Rattle.regions.proofs.Laws.{region-length, region-at}
 use Rattle.regions.proofs.Bounds.{ceiling-at}
 use Rattle.regions.proofs.Frame.{kept-below}
@@ -39,3 +39,10 @@ module _ {a : Areas} {n r t : ℕ} {w : List ℕ} (s : Along a n r w) (h : t < r
 
   pub line-left : drop t (line_in a r w) ≡ get_or w (a.line + t) 0 ∷ drop (t + 1) (line_in a r w)
   line-left = rw (line_read, add-one) (drop-cons (line_in a r w) t 0 (omega (arith, line-long)))
+
+-- the same, read from the line's k words
+pub line_long : {a : Areas} {n r : ℕ} {w : List ℕ} → Along a n r w → (k : ℕ) → k ≡ r → length (region a.line k w) ≡ r
+line_long {a} {n} {r} {w} s k e = rw e (region-length a.line r w (omega arith))
+
+pub line_item : {a : Areas} {n r : ℕ} {w : List ℕ} → Along a n r w → (k t : ℕ) → k ≡ r → t < length (region a.line k w) → get_or (region a.line k w) t 0 < n
+line_item {a} {n} {r} {w} s k t e h = rw e (omega (arith, line_long s k e, ceiling-at (line_in a r w) t (rw e at h)))

@@ -87,9 +87,6 @@ module _ {a : Areas} {n root r : ℕ} {w w₁ : List ℕ} (s : AtNode a n root w
 -- ---- the distances along a line
 
 module _ {a : Areas} {n root r : ℕ} {w : List ℕ} (s : Lines a n root r w) where
-  pub lines-along : Along a n r w
-  lines-along = record { graph = s.surveyed.graph; few = s.few; ids = s.ids }
-
   pub lines-found : {w' : List ℕ} → DistancesSet a n root r w w' → DistancesFound a n root r w w'
   lines-found d =
       let t = s.surveyed in

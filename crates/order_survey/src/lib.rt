@@ -11,7 +11,7 @@ ghost use Rattle.order_graph.specs.Graph.{graph_on, AtNode};
 ghost use Rattle.order_survey.specs.Survey.{unlined, lined_of, far_away};
 ghost use Rattle.order_survey.specs.Survey.{Counting, CountedAll, Lining, LineFound, Along, LoweredAlong, DistancesSet, Measured, Lines, DistancesFound};
 
-use lower::{lower_links, runs_are_common};
+use lower::{ByRuns, LinkByLink, Lower, runs_are_common};
 use order_graph::{field_from, link_count, links_at};
 use regions::fill;
 use work::Areas;
@@ -28,12 +28,9 @@ pub fn count_links(work: &mut [u64], a: Areas, n: usize, i: usize)
 {
     let count = link_count(work, a, n, i);
     let from = links_at(work, a, n, i);
-    let mut t = 0;
-    while t < count {
+    for t in 0..count {
         let f = field_from(work, a, n, i, t, from);
-        let j = a.incoming + f.child;
-        work[j] = work[j] + 1;
-        t += 1;
+        work[a.incoming + f.child] += 1;
     }
 }
 
@@ -43,8 +40,7 @@ fn find_line(work: &mut [u64], a: Areas, n: usize, root: usize) -> usize
     ensures { LineFound a n root result (unlined a.nodes root) work.old work.new }
 {
     fill(work, a.incoming, a.nodes, 0);
-    let first = a.incoming + root;
-    work[first] = 1;
+    work[a.incoming + root] = 1;
     line_down(work, a, n, root)
 }
 
@@ -54,17 +50,12 @@ fn line_down(work: &mut [u64], a: Areas, n: usize, root: usize) -> usize
     ensures { LineFound a n root result (lined_of a 0 work.old) work.old work.new }
 {
     let mut r = 0;
-    let mut i = root + 1;
-    while 0 < i {
-        i -= 1;
-        let j = a.incoming + i;
-        if work[j] == 0 {
-            continue;
+    for i in (0..root + 1).rev() {
+        if work[a.incoming + i] != 0 {
+            work[a.line + r] = i as u64;
+            count_links(work, a, n, i);
+            r += 1;
         }
-        let k = a.line + r;
-        work[k] = i as u64;
-        count_links(work, a, n, i);
-        r += 1;
     }
     r
 }
@@ -76,24 +67,23 @@ fn set_distances(work: &mut [u64], a: Areas, n: usize, root: usize, r: usize)
 {
     let runs = runs_are_common(work, a, n, r);
     fill(work, a.distances, a.nodes, FAR_AWAY);
-    let first = a.distances + root;
-    work[first] = 0;
-    lower_along(work, a, n, r, runs);
+    work[a.distances + root] = 0;
+    if runs {
+        lower_along::<ByRuns>(work, a, n, r);
+    } else {
+        lower_along::<LinkByLink>(work, a, n, r);
+    }
 }
 
-// Each node of the line in turn lowers its children's distances, by runs of its links or link by link.
-fn lower_along(work: &mut [u64], a: Areas, n: usize, r: usize, runs: bool)
+// Each node of the line in turn lowers its children's distances.
+fn lower_along<L: Lower>(work: &mut [u64], a: Areas, n: usize, r: usize)
     requires { Along a n r work.old × (ceiling (distances_in a work.old) ≤ far_away + 1) }
     ensures { LoweredAlong a n r work.old work.new }
 {
-    let mut t = 0;
-    while t < r {
-        let j = a.line + t;
-        let i = work[j] as usize;
-        let k = a.distances + i;
-        let d = work[k];
-        lower_links(work, a, n, i, d, runs);
-        t += 1;
+    for t in 0..r {
+        let i = work[a.line + t] as usize;
+        let d = work[a.distances + i];
+        L::lower_links(work, a, n, i, d);
     }
 }
 
@@ -102,13 +92,9 @@ fn line_length(work: &[u64], a: Areas, n: usize, r: usize) -> u64
     requires { Along a n r work.now }
     ensures { result ≡ total (graph_on a n work.now).size (line_in a r work.now) }
 {
-    let mut sum: u64 = 0;
-    let mut t = 0;
-    while t < r {
-        let j = a.line + t;
-        let i = work[j] as usize;
-        sum += work[i];
-        t += 1;
+    let mut sum = 0;
+    for i in &work[a.line..a.line + r] {
+        sum += work[*i as usize];
     }
     sum
 }
@@ -119,8 +105,7 @@ pub fn survey(work: &mut [u64], a: Areas, n: usize, root: usize) -> u64
     ensures { Measured a n root result work.old work.new }
 {
     let r = find_line(work, a, n, root);
-    let first = a.incoming + root;
-    work[first] = 0;
+    work[a.incoming + root] = 0;
     line_length(work, a, n, r)
 }
 

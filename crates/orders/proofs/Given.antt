@@ -1,10 +1,11 @@
 -- What the test of a graph's words tells, and that the graph stands where they are loaded.
 use mathlib.Core.Path.{◌≡◌, refl, ◌∙◌}
-use Prim.Native.Nat.{ℕ, zero, suc, ◌+◌, ◌*◌, ◌^◌, ◌≤◌, ◌<◌}
+use Prim.Native.Nat.{ℕ, zero, suc, ◌+◌, ◌*◌, ◌≤◌, ◌<◌}
 use mathlib.Core.List.{List, ◌++◌}
 use mathlib.Core.Bool.{Bool, true, false, ◌&&◌}
 use native.Mathlib.Omega.{arith}
-use lib.ListN.{length, get_or, take, length-append}
+use lib.ListN.{length, get_or, take, drop, length-append, length-drop}
+use lib.Seq.{take-append_seam}
 use lib.Dec.{eqb, ltb, leb}
 use borrow.Author.Tests.{ltb-true, leb-true, eqb-true, eqb-false}
 use Rattle.lists.proofs.Same.{and_left, and_right}
@@ -21,12 +22,13 @@ use Rattle.order_survey.specs.Survey.{Measured, Lines, DistancesFound}
 use Rattle.order_survey.proofs.Distances.{node-links}
 use Rattle.order_survey.proofs.Surveys.{surveyed-kept, surveyed-same, surveyed-found}
 use Rattle.order_spaces.specs.Spaces.{Spacing, Spaced}
-use Rattle.order_fit.specs.Fit.{Placing}
-use Rattle.order_fit.specs.declared.Look.{Look}
-use Rattle.order.specs.Try.{Trying, Ordered, Tried}
+use Rattle.order.specs.Try.{Trying, Ordered}
 use Rattle.order.specs.declared.By.{By}
 use Rattle.order.proofs.Orders.{ordered-sorted, ordered-lines}
-use Rattle.orders.specs.Given.{space, all_below, tidy_link, tidy_node, given, Loaded, Stood}
+use Rattle.std.specs.List.{list_all}
+use Rattle.std.proofs.lemmas.List.Folds.{list_all_at}
+use Rattle.orders.specs.declared.Graph.{Graph}
+use Rattle.orders.specs.Given.{space, shown, all_below, tidy_link, tidy_node, given, Loaded, Stood}
 
 -- what is tested of all numbers below n holds of each
 below_at : (n : ℕ) (test : ℕ → Bool) → all_below n test ≡ true → (i : ℕ) → i < n → test i ≡ true
@@ -102,30 +104,20 @@ told p k f e =
           rw l.2 (node-links a p f (λ m. m.child < i) i (λ b t d. (node i b).lower t d) l.0 l.1);
     }
 
-pub given-room : (p k : ℕ) (x y : List ℕ) → given p k (x ++ y) ≡ true → length x + length y ≤ space
-given-room p k x y e = let s = told p k (x ++ y) e in omega (arith, s.room, s.size, length-append x y)
-
-pub given-few : (p k : ℕ) (x y : List ℕ) → given p k (x ++ y) ≡ true → (p < 2 ^ 33) × (k < 2 ^ 43) × (0 < 2 ^ 32)
-given-few p k x y e = let s = told p k (x ++ y) e in (omega (arith, s.room), omega (arith, s.room), omega arith)
-
-pub loaded-stood : {p k : ℕ} {a : Areas} {x y w w₁ w₂ : List ℕ} → Told p k (x ++ y) → a ≡ areas_of p k 0 → space ≡ length w → Loaded x 0 w w₁ → Loaded y (length x) w₁ w₂ → Stood a w₂
-loaded-stood {p} {k} {a} {x} {y} {w} {w₁} {w₂} s e h l m =
-    let z : 0 + length x ≡ length x = omega arith in
-    let first : take (length x) w₁ ≡ x = rw (← z) l.front in
+pub loaded-stood : {p k : ℕ} {a : Areas} (x w : List ℕ) {y w₁ w₂ : List ℕ} → Told p k (x ++ y) → a ≡ areas_of p k 0 → space ≡ length w → w₁ ≡ x ++ drop (length x) w → Loaded y (length x) w₁ w₂ → Stood a w₂
+loaded-stood {p} {k} {a} x w {y} {w₁} {w₂} s e h l m =
+    let first : take (length x) w₁ ≡ x = rw l (take-append_seam x (drop (length x) w)) in
     let size : length x + length y ≡ graph_words p k = omega (arith, s.size, length-append x y) in
+    let long : length w₁ ≡ length w = rw l (simp (length-append, length-drop) (omega (arith, s.room))) in
     let front : take (graph_words p k) w₂ ≡ x ++ y = rw (← size) (rw first at m.front) in
     rw e
     (record {
-      graph = record { apart = areas-apart p k 0; long = omega (arith, s.room, l.long, m.long); tidy = rw front s.tidy };
+      graph = record { apart = areas-apart p k 0; long = omega (arith, s.room, m.long); tidy = rw front s.tidy };
       some = s.some;
       falls = rw front s.falls;
     })
 
 -- ---- one order after the other
-
--- an order tried leaves its nodes and places behind the graph
-pub tried-placing : {a : Areas} {n root r : ℕ} {by : By} {x : Look} {w w' : List ℕ} → Trying a n root by w → Tried a n root by r x w w' → Placing a n r w'
-tried-placing s t = record { graph = stands-kept s.surveyed.graph t.ordered.kept (omega arith); nodes = t.ordered.nodes }
 
 pub measured-trying : {a : Areas} {n root l : ℕ} {w w' : List ℕ} → Measured a n root l w w' → Trying a n root By.Readiness w'
 measured-trying m = record { nodes = _; surveyed = m.surveyed; asked = tt }
@@ -163,3 +155,15 @@ module _ {a : Areas} {n root r : ℕ} {w w' : List ℕ} (s : Trying a n root By.
         surveyed = surveyed-same t f.only (omega (arith, p)) (kept-below f.only a.incoming a.nodes (omega (arith, p)));
         asked = (rw distances s.asked, omega (arith, f.small, o.nodes.few, g.tidy.limit));
       }
+
+-- ---- the graphs of a table
+
+pub record AllShown (gs : List Graph) : Type 0 where
+  pub all : list_all shown gs ≡ true
+
+pub shown-each : {gs : List Graph} → AllShown gs → (i : ℕ) (d : Graph) → i < length gs → shown (get_or gs i d) ≡ true
+shown-each {gs} a i d h = go (shown (get_or gs i d)) refl
+  where
+    go : (b : Bool) → shown (get_or gs i d) ≡ b → b ≡ true
+    go true k = refl
+    go false k = let f = a.all in let e = list_all_at shown gs i d h k in cc

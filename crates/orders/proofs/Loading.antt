@@ -1,7 +1,7 @@
 -- The turns of `load` and of `load_links`: word after word.
-use mathlib.Core.Path.{◌≡◌, refl, sym, ap, ◌∙◌}
+use mathlib.Core.Path.{◌≡◌, refl, ap, ◌∙◌}
 use Prim.Native.Nat.{ℕ, zero, suc, ◌+◌, ◌*◌, ◌/◌, ◌≤◌, ◌<◌}
-use mathlib.Core.List.{List, [], ◌∷◌, ◌++◌, append-nil, append_assoc}
+use mathlib.Core.List.{List, [], ◌∷◌, ◌++◌, append_assoc}
 use native.Mathlib.Omega.{arith}
 use native.Mathlib.Numerals.{add-one}
 use lib.ListN.{length, get_or, set, take, length-set}
@@ -11,27 +11,20 @@ use Rattle.orders.specs.Given.{packed, Loaded}
 
 -- i words stand in the memory
 pub record Loading (f : List ℕ) (at i : ℕ) (w₀ w : List ℕ) : Type 0 where
-  pub some : i ≤ length f
   pub long : length w ≡ length w₀
   pub front : take (at + i) w ≡ take at w₀ ++ take i f
 
-pub loading-none : (f : List ℕ) (at : ℕ) (w : List ℕ) → Loading f at 0 w w
-loading-none f at w = let e : at + 0 ≡ at = omega arith in record { some = omega arith; long = refl; front = rw e (sym (append-nil (take at w))) }
-
 module _ {f : List ℕ} {at i : ℕ} {w₀ w : List ℕ} (s : Loading f at i w₀ w) where
-  pub loading-next : at + length f ≤ length w₀ → i < length f → Loading f at (i + 1) w₀ (set w (at + i) (get_or f i 0))
+  loading-next : at + length f ≤ length w₀ → i < length f → Loading f at (i + 1) w₀ (set w (at + i) (get_or f i 0))
   loading-next room h =
       let e : at + (i + 1) ≡ suc (at + i) = omega arith in
       record {
-        some = omega arith;
         long = length-set w (at + i) (get_or f i 0) ∙ s.long;
         front = rw (e, take-suc-set w (at + i) (get_or f i 0) (omega (arith, s.long)), add-one, take-suc f i 0 h, s.front) (append_assoc (take at w₀) (take i f) (get_or f i 0 ∷ []));
       }
 
-  pub loading-all : length f ≤ i → Loaded f at w₀ w
-  loading-all h =
-      let e : i ≡ length f = omega (arith, s.some) in
-      record { long = s.long; front = rw (← e) (s.front ∙ ap (λ (l : List ℕ). take at w₀ ++ l) (take_all i f h)) }
+  pub loading-all : i ≡ length f → Loaded f at w₀ w
+  loading-all e = record { long = s.long; front = rw (← e) (s.front ∙ ap (λ (l : List ℕ). take at w₀ ++ l) (take_all i f (omega arith))) }
 
 -- ---- two words in one
 

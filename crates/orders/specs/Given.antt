@@ -1,11 +1,13 @@
 -- A test of a graph's words, which the checker computes.
-use Rattle.std.specs.Prelude.{ℕ, zero, suc, ◌+◌, ◌*◌, ◌<◌, ◌≡◌, List, [], ◌∷◌, ◌++◌, Bool, true, ◌&&◌, length, get_or, take, eqb, ltb, leb}
+use Rattle.std.specs.Prelude.{ℕ, zero, suc, ◌+◌, ◌*◌, ◌/◌, ◌<◌, ◌≡◌, List, [], ◌∷◌, ◌++◌, Bool, true, ◌&&◌, length, get_or, take, eqb, ltb, leb}
 use Rattle.model_orders.specs.Object.{width_ok}
+use Rattle.model_orders.specs.Words.{link_words}
 use Rattle.model_orders.specs.Graph.{Acyclic}
 use Rattle.work.specs.Areas.{areas_of, graph_words}
 use Rattle.work.specs.Packed.{packed_words, most_half}
 use Rattle.work.specs.declared.Areas.{Areas}
 use Rattle.order_graph.specs.Graph.{graph_on, link_of, links_at, link_count, most_nodes, most_node_links, most_size, Stands}
+use Rattle.orders.specs.declared.Graph.{Graph}
 
 -- enough words for the largest of the graphs
 abbrev pub space : ℕ
@@ -16,6 +18,10 @@ abbrev pub packed : List ℕ → List ℕ
 packed [] = []
 packed (x ∷ []) = []
 packed (x ∷ y ∷ ws) = (x + y * most_half) ∷ packed ws
+
+-- the words of a node: its size, its first link, its count of links
+abbrev pub node_words : ℕ
+node_words = 3
 
 abbrev pub all_below : ℕ → (ℕ → Bool) → Bool
 all_below zero test = true
@@ -35,6 +41,10 @@ tidy_node a f i =
 abbrev pub given : ℕ → ℕ → List ℕ → Bool
 given p k f =
     ltb 0 p && (leb p most_nodes && (eqb (length f) (graph_words p k) && (leb (areas_of p k 0).end space && all_below p (tidy_node (areas_of p k 0) f))))
+
+-- the words of a named graph are those of a graph that can be shown
+abbrev pub shown : Graph → Bool
+shown g = given (length g.nodes.now / node_words) (length g.links.now / link_words) (g.nodes.now ++ packed g.links.now)
 
 -- the words f stand in the memory from `at` on, and what was in front of them still does
 pub record Loaded (f : List ℕ) (at : ℕ) (w w' : List ℕ) : Type 0 where

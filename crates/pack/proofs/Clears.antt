@@ -8,7 +8,7 @@ use lib.ListN.{length, replicate, length-replicate}
 use Rattle.lists.specs.Lists.{over}
 use Rattle.regions.specs.Region.{Kept}
 use Rattle.answer.specs.declared.tally.Tally.{Tally}
-use Rattle.answer.specs.declared.Packing.{Packing}
+use Rattle.answer.specs.Answers.{Packing}
 use Rattle.model.specs.Judge.{most_copies}
 use Rattle.layout.specs.Words.{object_limit, link_limit}
 use Rattle.layout.specs.Known.{Read}

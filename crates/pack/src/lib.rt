@@ -14,7 +14,7 @@ use answer::{ObjectId, Packing, Refusal, Tally};
 use layout::state::read;
 use pack_graph::pack_graph;
 use session_tally::tally_of;
-use soundness::is_sound;
+use soundness::test;
 use work::{Areas, MOST_COPIES, clear};
 
 pub fn pack_sound(
@@ -31,17 +31,17 @@ pub fn pack_sound(
     let s = read(store, records);
     let t = tally_of(store.len(), s);
     if MOST_COPIES < copies {
-        return Packing::Refused(Refusal::OutOfRange, Tally::none());
+        return Err(Refusal::OutOfRange.with(Tally::none()));
     }
     let a = Areas::with_copies(s.objects, s.links, copies as usize);
     if work.len() < a.end {
-        return Packing::Refused(Refusal::OutOfRange, Tally::none());
+        return Err(Refusal::OutOfRange.with(Tally::none()));
     }
     if 0 < t.depth {
-        return Packing::Refused(Refusal::ObjectOpen, t);
+        return Err(Refusal::ObjectOpen.with(t));
     }
     if t.objects <= id.0 as usize {
-        return Packing::Refused(Refusal::NotClosed, t);
+        return Err(Refusal::NotClosed.with(t));
     }
     let answer = pack_graph(store, records, s, t, a, id, out, work);
     clear(work, a);
@@ -60,8 +60,6 @@ pub fn pack(
 ) -> Packing
     ensures { pack_left (told_by_pack result) (stores store.now records.now) out.new work.new ≡ lent_step (pack id.0 copies out.old work.old) (stores store.now records.now) }
 {
-    if is_sound(store, records) {
-        return pack_sound(store, records, id, copies, out, work);
-    }
-    Packing::Refused(Refusal::Unsound, Tally::none())
+    test(store, records)?;
+    pack_sound(store, records, id, copies, out, work)
 }

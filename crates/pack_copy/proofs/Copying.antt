@@ -6,7 +6,7 @@ use native.Mathlib.Omega.{arith}
 use lib.ListN.{length, get_or, set, length-set}
 use lib.Seq.{get_or-set_same, get_or-set_other}
 use Rattle.regions.specs.Region.{Kept}
-use Rattle.regions.proofs.Frame.{kept-all, kept_then, kept_set}
+use Rattle.regions.proofs.Frame.{kept_then, kept_set}
 use Rattle.layout.specs.Words.{link_limit, links_at}
 use Rattle.layout.specs.Spans.{closed_span, Lies}
 use Rattle.layout.specs.declared.span.Span.{Span}
@@ -16,21 +16,6 @@ use Rattle.work.specs.Areas.{Apart}
 use Rattle.work.specs.Packed.{packed_words, Halves}
 use Rattle.work.specs.declared.Areas.{Areas}
 use Rattle.pack_copy.specs.Copy.{Copyable, NodeOf, NodesCopied, LinksCopied}
-
-module _ {a : Areas} {w m : List ℕ} where
-  pub nodes-none : NodesCopied a 0 w m m
-  nodes-none = record { kept = kept-all; node = λ i h. absurd (omega arith) }
-
-  pub links-none : LinksCopied a 0 w m m
-  links-none = record { kept = kept-all; words = λ i h. absurd (omega arith) }
-
--- all of them
-module _ {a : Areas} {n all : ℕ} {w m m' : List ℕ} (e : n ≡ all) where
-  pub nodes-all : NodesCopied a n w m m' → NodesCopied a all w m m'
-  nodes-all s = rw e at s
-
-  pub links-all : LinksCopied a n w m m' → LinksCopied a all w m m'
-  links-all s = rw e at s
 
 -- the words of node n, by where it lies
 pub node-read : {w : List ℕ} {n : ℕ} {o : Span} → Lies w (closed_span w n) o → NodeOf w n (o.to - o.from) o.first (o.last - o.first)
@@ -99,14 +84,6 @@ module _ {a : Areas} {s : State} {w m₀ : List ℕ} (c : Copyable w s a m₀) w
             (rw (new, new_first, new_count) o) i (omega arith);
       }
 
-  -- its words lie in the memory
-  pub node-room : {n : ℕ} {m : List ℕ} → n < s.closed → NodesCopied a n w m₀ m → (n < length m) × (a.firsts + n < length m) × (a.counts + n < length m)
-  node-room k t =
-      let h = node_in k in
-      let x = c.areas.apart in
-      let long = t.kept.long in
-      (omega (arith, h, long, x, c.long), omega (arith, h, long, x, c.long), omega (arith, h, long, x, c.long))
-
   pub links-next : {n v : ℕ} {m : List ℕ} → n < s.links * packed_words → Halves (get_or w (links_at w + n * 2) 0) (get_or w (links_at w + n * 2 + 1) 0) v
       → LinksCopied a n w m₀ m → LinksCopied a (n + 1) w m₀ (set m (a.links + n) v)
   links-next {n} {v} {m} k e t =
@@ -121,6 +98,3 @@ module _ {a : Areas} {s : State} {w m₀ : List ℕ} (c : Copyable w s a m₀) w
             (λ i b. rw (get_or-set_other m (a.links + n) (a.links + i) v 0 (omega arith)) (t.words i b))
             (rw new e) i (omega arith);
       }
-
-  pub link-room : {n : ℕ} {m : List ℕ} → n < s.links * packed_words → LinksCopied a n w m₀ m → a.links + n < length m
-  link-room k t = omega (arith, link-in k, t.kept.long, c.areas.words, c.areas.apart, c.long)

@@ -7,7 +7,7 @@ ghost use Rattle.pack_copy.specs.Copy.{Copyable, Copied, NodesCopied, LinksCopie
 
 use layout::span::closed_span;
 use layout::state::State;
-use layout::words::{LINKS_AT, word};
+use layout::words::LINKS_AT;
 use work::{Areas, MOST_HALF, PACKED_WORDS};
 
 // Each closed object's size, first link and link count.
@@ -15,17 +15,11 @@ fn copy_nodes(records: &[u32], s: State, a: Areas, work: &mut [u64])
     requires { Copyable records.now s a work.old }
     ensures { NodesCopied a s.closed records.now work.old work.new }
 {
-    let closed = s.closed;
-    let p = s.objects;
-    let mut i = 0;
-    while i < closed {
-        let o = closed_span(records, p, i);
-        let first_at = a.firsts + i;
-        let count_at = a.counts + i;
+    for i in 0..s.closed {
+        let o = closed_span(records, s.objects, i);
         work[i] = (o.to - o.from) as u64;
-        work[first_at] = o.first as u64;
-        work[count_at] = (o.last - o.first) as u64;
-        i += 1;
+        work[a.firsts + i] = o.first as u64;
+        work[a.counts + i] = (o.last - o.first) as u64;
     }
 }
 
@@ -34,7 +28,7 @@ fn pair(records: &[u32], i: usize) -> u64
     requires { i + 1 < length records.now }
     ensures { Halves (get_or records.now i 0) (get_or records.now (i + 1) 0) result }
 {
-    word(records, i) as u64 + word(records, i + 1) as u64 * MOST_HALF
+    u64::from(records[i]) + u64::from(records[i + 1]) * MOST_HALF
 }
 
 // The links' records, all of them, behind the nodes: two words in one.
@@ -43,12 +37,8 @@ fn copy_links(records: &[u32], s: State, a: Areas, work: &mut [u64])
     ensures { LinksCopied a (s.links * packed_words) records.now work.old work.new }
 {
     let base = LINKS_AT + s.objects * 2;
-    let end = s.links * PACKED_WORDS;
-    let mut i = 0;
-    while i < end {
-        let at = a.links + i;
-        work[at] = pair(records, base + i * 2);
-        i += 1;
+    for i in 0..s.links * PACKED_WORDS {
+        work[a.links + i] = pair(records, base + i * 2);
     }
 }
 

@@ -1,19 +1,19 @@
 -- The parts of the code joined: the graph copied, surveyed and arranged, and its table written.
+use Rattle.std.specs.Prelude.{Ok, Err}
 use mathlib.Core.Path.{◌≡◌, refl, sym, ap, subst, ◌∙◌}
 use Prim.Native.Nat.{ℕ, ◌-◌, ◌≤◌, ◌<◌}
 use mathlib.Core.List.{List}
 use native.Mathlib.Omega.{arith}
 use native.Mathlib.Decide.{dec_le}
 use lib.ListN.{length, get_or}
-use Rattle.lists.specs.Lists.{total, over}
+use Rattle.lists.specs.Lists.{total}
 use Rattle.regions.specs.Region.{Kept}
 use Rattle.regions.proofs.Laws.{region-length}
 use Rattle.regions.proofs.Frame.{kept_then, kept_less}
 use Rattle.answer.specs.declared.tally.Tally.{Tally}
 use Rattle.answer.specs.declared.Overflow.{Overflow}
 use Rattle.answer.specs.declared.Refusal.TheVariants as Refusal
-use Rattle.answer.specs.declared.Packing.{Packing}
-use Rattle.answer.specs.declared.Packing.TheVariants.{Done, Refused}
+use Rattle.answer.specs.Answers.{Packing}
 use Rattle.model_orders.specs.Bag.{count}
 use Rattle.model_orders.specs.Graph.{Graph, graph_of, Acyclic, Closed, Once}
 use Rattle.model_orders.specs.Reading.{reading_at, readings}
@@ -38,7 +38,7 @@ use Rattle.order_graph.specs.Graph.{graph_on, AtNode}
 use Rattle.order_graph.proofs.Links.{front_kept}
 use Rattle.order_graph.proofs.Nodes.{ceiling-in}
 use Rattle.order_survey.specs.Survey.{Measured}
-use Rattle.order_fit.specs.declared.Look.TheVariants.{Fits, Over}
+use Rattle.std.specs.Prelude.{Ok, Err}
 use Rattle.order_resolve.specs.declared.Arranged.{Arranged}
 use Rattle.order_resolve.specs.Resolve.{Arranging, ArrangedIn, Arranges, look_in}
 use Rattle.pack_copy.specs.Copy.{Standing, Copyable, Copied}
@@ -50,13 +50,13 @@ use Rattle.pack_graph.specs.Packable.{Packable, Fitting, Written, Answered}
 
 -- ---- what a look tells of the outcome
 
-look-over : (u : Outcome) {v : Overflow} → look_in u ≡ Over v → u ≡ overflow v
-look-over (placed o) e = absurd (let q : ◌≡◌ {A = ℕ} 0 1 = cc in omega arith)
+look-over : (u : Outcome) {v : Overflow} → look_in u ≡ Err v → u ≡ overflow v
+look-over (placed o) e = cc
 look-over (overflow w) {v} e = let q : w ≡ v = cc in ap overflow q
 
-look-fits : (u : Outcome) → look_in u ≡ Fits → (o : List ℕ) × (u ≡ placed o)
+look-fits : (u : Outcome) → look_in u ≡ Ok tt → (o : List ℕ) × (u ≡ placed o)
 look-fits (placed o) e = (o, refl)
-look-fits (overflow v) e = absurd (let q : ◌≡◌ {A = ℕ} 0 1 = cc in omega arith)
+look-fits (overflow v) e = cc
 
 -- ---- the parts
 
@@ -79,7 +79,7 @@ module _ {b w : List ℕ} {s : State} {t : Tally} {a : Areas} {root : ℕ} {m : 
       now : Standing b w a s.closed m₂
       now = standing-kept stands z.kept (omega (arith, c.areas.apart))
 
-      pub pack-arranging : Arranging a s.closed s.links root n a.copies m₂
+      pub pack-arranging : Arranging a (record { nodes = s.closed; links = s.links; root = root; size = n; copies = a.copies }) m₂
       pack-arranging =
           let front = front_kept stands.graph z.kept (omega (arith, c.areas.apart)) in
           record {
@@ -117,12 +117,12 @@ module _ {b w : List ℕ} {s : State} {t : Tally} {a : Areas} {root : ℕ} {m : 
         kept-all : Kept 0 a.end m m₃
         kept-all = kept_then kept d.kept
 
-        pub pack-over : {o : Overflow} (out : List ℕ) → r.look ≡ Over o → Answered b w a root (Refused (Refusal.Overflow o) t) out out m m₃
+        pub pack-over : {o : Overflow} (out : List ℕ) → r.look ≡ Err o → Answered b w a root (Err (record { why = Refusal.Overflow o; tally = t })) out out m m₃
         pack-over out e = record { kept = kept-all; told = rw c.tally (over-told b w all a.copies out m (look-over all.outcome (sym done.told ∙ e))) }
 
         -- ---- in which every link fits
 
-        module _ (e : r.look ≡ Fits) where
+        module _ (e : r.look ≡ Ok tt) where
           order : List ℕ
           order = (look-fits all.outcome (sym done.told ∙ e)).0
 
@@ -208,13 +208,3 @@ module _ {b w : List ℕ} {s : State} {t : Tally} {a : Areas} {root : ℕ} {m : 
               go : Dec (r.length ≤ length out) → packed p out' (cleared a.copies w m) ≡ rest b w all a.copies out m
               go (yes h) = answer (u.room h) ∙ rw (← made-is, table_is, c.tally) (placed-told b w all a.copies out m order_is (omega (arith, done.length-is)))
               go (no h) = answer (u.short (omega arith)) ∙ rw c.tally (short-told b w all a.copies out m order_is (omega (arith, done.length-is)))
-
--- ---- a table written where there is room
-
-module _ {b w m : List ℕ} {s : State} {t : Tally} {a : Areas} {r : Arranged} {out : List ℕ} where
-  pub written-short : length out < r.length → Written b w s t a r (Refused Refusal.OutputShort t) out out m
-  written-short h = record { short = λ k. refl; room = λ k. absurd (omega arith) }
-
-  pub written-room : {out' : List ℕ} → r.length ≤ length out → out' ≡ over 0 (table_for b w a s.closed r.nodes r.placed m) out
-      → Written b w s t a r (Done (record { length = r.length; copies = r.nodes - s.closed; placed = r.placed }) t) out out' m
-  written-room h e = record { short = λ k. absurd (omega arith); room = λ k. rw e }

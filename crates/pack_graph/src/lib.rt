@@ -3,11 +3,10 @@
 
 ghost use Rattle.pack_graph.specs.Packable.{Packable, Fitting, Written, Answered};
 
-use answer::{ObjectId, PackedTable, Packing, Refusal, Tally};
+use answer::{ObjectId, Packed, PackedTable, Packing, Refusal, Tally};
 use layout::state::State;
 use order_arrange::arrange;
-use order_fit::Look;
-use order_resolve::Arranged;
+use order_resolve::{Arranged, Objects};
 use order_survey::survey;
 use pack_copy::copy_graph;
 use pack_write::write_table;
@@ -29,15 +28,18 @@ fn write_fitting(
 {
     let size = r.length as usize;
     if out.len() < size {
-        return Packing::Refused(Refusal::OutputShort, t);
+        return Err(Refusal::OutputShort.with(t));
     }
-    write_table(out, store, records, s, a, r.nodes, work, r.placed, size);
+    write_table(out, store, records, s, a, r, work);
     let made = PackedTable {
         length: size,
         copies: r.nodes - s.closed,
         placed: r.placed,
     };
-    Packing::Done(made, t)
+    Ok(Packed {
+        table: made,
+        tally: t,
+    })
 }
 
 // The graph copied and arranged, and its table written where the output has room for it. The needed work memory is left as it comes.
@@ -57,10 +59,16 @@ pub fn pack_graph(
     copy_graph(records, s, a, work);
     let root = id.0 as usize;
     let size = survey(work, a, s.closed, root);
-    let r = arrange(work, a, s.closed, s.links, root, size, a.copies);
-    let look = r.look;
-    let Look::Over(o) = look else {
-        return write_fitting(store, records, s, t, a, r, out, work);
+    let objects = Objects {
+        nodes: s.closed,
+        links: s.links,
+        root,
+        size,
+        copies: a.copies,
     };
-    Packing::Refused(Refusal::Overflow(o), t)
+    let r = arrange(work, a, objects);
+    match r.look {
+        Ok(()) => write_fitting(store, records, s, t, a, r, out, work),
+        Err(o) => Err(Refusal::Overflow(o).with(t)),
+    }
 }

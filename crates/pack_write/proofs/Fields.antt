@@ -1,8 +1,7 @@
 -- The fields of an object, written one at a time.
-use mathlib.Core.Path.{◌≡◌, refl, ◌∙◌}
+use mathlib.Core.Path.{◌≡◌, ◌∙◌}
 use Prim.Native.Nat.{ℕ, ◌+◌, ◌≤◌, ◌<◌}
 use mathlib.Core.List.{List, ◌∷◌}
-use native.Mathlib.Omega.{arith}
 use lib.ListN.{length, take}
 use Rattle.lists.specs.Lists.{over}
 use Rattle.lists.proofs.Over.{length_over}
@@ -13,12 +12,11 @@ use Rattle.model_orders.specs.Table.{filled, FieldsIn}
 use Rattle.work.specs.Views.{places_in}
 use Rattle.work.specs.declared.Areas.{Areas}
 use Rattle.order_graph.specs.Graph.{graph_on, links_after, link_count, AtNode, FieldOf}
-use Rattle.order_graph.proofs.Links.{links-in, links-read, links-none}
+use Rattle.order_graph.proofs.Links.{links-read, links-none}
 use Rattle.order_fit.specs.Fit.{offset_by}
 
 -- d₀ has become d: t fields of node i are written
 pub record Fields (a : Areas) (n i t : ℕ) (w d₀ d : List ℕ) : Type 0 where
-  pub some : t ≤ link_count a (take a.keys w) i
   pub long : length d ≡ length d₀
   pub from : ℕ
   pub inside : FieldsIn from (length d₀) (links_after a (take a.keys w) i t)
@@ -30,11 +28,6 @@ module _ {a : Areas} {n i : ℕ} {w : List ℕ} (m : AtNode a n i w) where
   front = take a.keys w
 
   module _ {d₀ : List ℕ} where
-    pub fields-none : FieldsIn 0 (length d₀) ((graph_on a n w).links i) → Fields a n i 0 w d₀ d₀
-    fields-none f =
-        let e = links-in a n front i m.inside in
-        record { some = omega arith; long = refl; from = 0; inside = rw e at f; left = rw e }
-
     module _ {t : ℕ} {d : List ℕ} {l : Link} (s : Fields a n i t w d₀ d) (h : t < link_count a front i) (r : FieldOf a n front i t l) where
       next : links_after a front i t ≡ l ∷ links_after a front i (t + 1)
       next = links-read r h
@@ -48,7 +41,6 @@ module _ {a : Areas} {n i : ℕ} {w : List ℕ} (m : AtNode a n i w) where
         unfolding FieldsIn filled
         fields-next =
             record {
-              some = omega arith;
               long = rw q (length_over l.slot.at _ d (rw length-big field-inside) ∙ s.long);
               from = l.slot.at + l.slot.width;
               inside = (rw (next, FieldsIn) at s.inside).1;

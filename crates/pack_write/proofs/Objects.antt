@@ -1,6 +1,6 @@
 -- The objects of an order, written one at a time.
 use mathlib.Core.Path.{◌≡◌, refl, sym, ap, ◌∙◌}
-use Prim.Native.Nat.{ℕ, ◌+◌, ◌-◌, ◌^◌, ◌≤◌, ◌<◌}
+use Prim.Native.Nat.{ℕ, ◌+◌, ◌-◌, ◌≤◌, ◌<◌}
 use mathlib.Core.List.{List, [], ◌∷◌, ◌++◌}
 use native.Mathlib.Nat.{zero-add}
 use native.Mathlib.Omega.{arith}
@@ -35,6 +35,7 @@ use Rattle.work.specs.declared.Areas.{Areas}
 use Rattle.order_graph.specs.Graph.{graph_on, object_of, AtNode}
 use Rattle.order_fit.specs.Fit.{offset_by, Placing}
 use Rattle.order_fit.proofs.Summing.{order-long}
+use Rattle.order_resolve.specs.declared.Arranged.{Arranged}
 use Rattle.pack_write.specs.Write.{bytes_of, Writing, table_for}
 
 -- ---- written over the front of what is as long, and over a part of which more was written
@@ -59,7 +60,6 @@ rest g bytes o t = table_from g bytes (place_of g o) (drop t o)
 
 -- d₀ has become d: t objects of the order o, which has r, are written, and the next begins at `next`
 pub record Objects (g : Graph) (bytes : ℕ → List ℕ) (o : List ℕ) (r t : ℕ) (d₀ d : List ℕ) : Type 0 where
-  pub some : t ≤ r
   pub long : length d ≡ length d₀
   pub next : ℕ
   pub next-is : next + total g.size (drop t o) ≡ total g.size o
@@ -67,9 +67,18 @@ pub record Objects (g : Graph) (bytes : ℕ → List ℕ) (o : List ℕ) (r t : 
 
 pub objects-none : (g : Graph) (bytes : ℕ → List ℕ) (o : List ℕ) (r : ℕ) (d : List ℕ) → Objects g bytes o r 0 d d
 unfolding table_of
-objects-none g bytes o r d = record { some = omega arith; long = refl; next = 0; next-is = omega arith; left = refl }
+objects-none g bytes o r d = record { long = refl; next = 0; next-is = omega arith; left = refl }
 
-module _ {b w m : List ℕ} {s : State} {a : Areas} {nodes r size : ℕ} (c : Writing b w s a nodes m r size) where
+module _ {b w m : List ℕ} {s : State} {a : Areas} {made : Arranged} (c : Writing b w s a made m) where
+  abbrev nodes : ℕ
+  nodes = made.nodes
+
+  abbrev r : ℕ
+  r = made.placed
+
+  abbrev size : ℕ
+  size = made.length
+
   abbrev order : List ℕ
   order = order_in a r m
 
@@ -81,9 +90,6 @@ module _ {b w m : List ℕ} {s : State} {a : Areas} {nodes r size : ℕ} (c : Wr
 
   pub table-placing : Placing a nodes r m
   table-placing = record { graph = c.graph; nodes = c.ids }
-
-  pub count_small : r < 2 ^ 32
-  count_small = omega (arith, c.ids.few, c.graph.tidy.limit)
 
   pub objects-all : {t : ℕ} {d₀ d : List ℕ} → Objects g bytes order r t d₀ d → r ≤ t → d ≡ over 0 (table_for b w a s.closed nodes r m) d₀
   unfolding table_from
@@ -233,7 +239,6 @@ module _ {b w m : List ℕ} {s : State} {a : Areas} {nodes r size : ℕ} (c : Wr
               let all = place-left o in
               rw (q, written-wide, over-lent place (written ++ more) d k)
               (record {
-                some = omega arith;
                 long = length_over place (written ++ more) d k ∙ o.long;
                 next = place + length written;
                 next-is = omega (arith, written-size, all, sizes, c.size_is);

@@ -1,5 +1,5 @@
 -- docs/RULES.md, 6.5 and 7.6, on lent memory: the table written from the order and the places in the work memory.
-use Rattle.std.specs.Prelude.{ℕ, ◌≤◌, ◌<◌, ◌≡◌, List, length, get_or}
+use Rattle.std.specs.Prelude.{ℕ, ◌<◌, ◌≡◌, List, length, get_or}
 use Rattle.lists.specs.Lists.{total}
 use Rattle.model_orders.specs.Bag.{count}
 use Rattle.model_orders.specs.Graph.{Closed, Once}
@@ -12,6 +12,7 @@ use Rattle.work.specs.Views.{order_in, places_in, origin_in}
 use Rattle.work.specs.declared.Areas.{Areas}
 use Rattle.order_place.specs.Place.{OrderIds}
 use Rattle.order_graph.specs.Graph.{graph_on, Stands, Owned}
+use Rattle.order_resolve.specs.declared.Arranged.{Arranged}
 
 -- the bytes of each node: those of its object, of which there are n
 abbrev pub bytes_of : List ℕ → List ℕ → Areas → ℕ → List ℕ → ℕ → List ℕ
@@ -22,17 +23,17 @@ pub record NodeFits (b w : List ℕ) (a : Areas) (n nodes : ℕ) (m : List ℕ) 
   pub sized : length (bytes_of b w a n m i) ≡ (graph_on a nodes m).size i
   pub fields : FieldsIn 0 ((graph_on a nodes m).size i) ((graph_on a nodes m).links i)
 
--- what writing r nodes, of `size` bytes in all, asks
-pub record Writing (b w : List ℕ) (s : State) (a : Areas) (nodes : ℕ) (m : List ℕ) (r size : ℕ) : Type 0 where
+-- what writing the placed nodes of an arrangement asks
+pub record Writing (b w : List ℕ) (s : State) (a : Areas) (r : Arranged) (m : List ℕ) : Type 0 where
   pub read : Read b w s
-  pub graph : Stands a nodes m
-  pub owned : Owned a s.closed nodes m
-  pub each : (i : ℕ) → i < nodes → NodeFits b w a s.closed nodes m i
-  pub ids : OrderIds a nodes r m
-  pub once : Once (order_in a r m)
-  pub closed : Closed (graph_on a nodes m) (order_in a r m)
-  pub places : (i : ℕ) → 0 < count i (order_in a r m) → get_or (places_in a m) i 0 ≡ place_of (graph_on a nodes m) (order_in a r m) i
-  pub size_is : size ≡ total (graph_on a nodes m).size (order_in a r m)
+  pub graph : Stands a r.nodes m
+  pub owned : Owned a s.closed r.nodes m
+  pub each : (i : ℕ) → i < r.nodes → NodeFits b w a s.closed r.nodes m i
+  pub ids : OrderIds a r.nodes r.placed m
+  pub once : Once (order_in a r.placed m)
+  pub closed : Closed (graph_on a r.nodes m) (order_in a r.placed m)
+  pub places : (i : ℕ) → 0 < count i (order_in a r.placed m) → get_or (places_in a m) i 0 ≡ place_of (graph_on a r.nodes m) (order_in a r.placed m) i
+  pub size_is : r.length ≡ total (graph_on a r.nodes m).size (order_in a r.placed m)
 
 -- the table of r placed nodes
 abbrev pub table_for : List ℕ → List ℕ → Areas → ℕ → ℕ → ℕ → List ℕ → List ℕ

@@ -14,6 +14,7 @@ use layout::state::State;
 use memory_copy::WIDE;
 use order_fit::{node_at, offset_at};
 use order_graph::{field_from, link_count, links_at, origin_of};
+use order_resolve::Arranged;
 use work::Areas;
 
 // Fills the fields of node i, whose bytes stand at the front of `part`.
@@ -21,14 +22,11 @@ fn write_fields(part: &mut [u8], work: &[u64], a: Areas, n: usize, i: usize)
     requires { AtNode a n i work.now × FieldsIn 0 (length part.old) ((graph_on a n work.now).links i) }
     ensures { part.new ≡ filled (offset_by (places_in a work.now) i) ((graph_on a n work.now).links i) part.old }
 {
-    let count = link_count(work, a, n, i);
     let from = links_at(work, a, n, i);
-    let mut t = 0;
-    while t < count {
+    for t in 0..link_count(work, a, n, i) {
         let f = field_from(work, a, n, i, t, from);
         let offset = offset_at(work, a, n, i, f);
         big_endian::write(part, f.at, f.width, offset);
-        t += 1;
     }
 }
 
@@ -46,46 +44,32 @@ fn wide_end(from: usize, to: usize, stored: usize, room: usize) -> usize
     requires { (from ≤ to) × (to ≤ stored) × (to - from ≤ room) }
     ensures { (to ≤ result) × (result ≤ stored) × (result - from ≤ room) }
 {
-    if WIDE < to - from {
-        return to;
-    }
-    if stored - from < WIDE {
-        return to;
-    }
-    if room < WIDE {
+    if WIDE < to - from || stored - from < WIDE || room < WIDE {
         return to;
     }
     from + WIDE
 }
 
-// The placed nodes, each lent its part of the output from its place on; a copy has the bytes of its original. The table is `size` bytes long: what is copied behind a node's own bytes is
-// overwritten by the nodes behind it.
+// The placed nodes, each lent its part of the output from its place on; a copy has the bytes of its original. What is copied behind a node's own bytes is overwritten by
+// the nodes behind it.
 pub fn write_table(
     out: &mut [u8],
     store: &[u8],
     records: &[u32],
     s: State,
     a: Areas,
-    nodes: usize,
+    r: Arranged,
     work: &[u64],
-    placed: usize,
-    size: usize,
 )
-    requires { Writing store.now records.now s a nodes work.now placed size × (size ≤ length out.old) }
-    ensures { out.new ≡ over 0 (table_for store.now records.now a s.closed nodes placed work.now) out.old }
+    requires { Writing store.now records.now s a r work.now × (r.length ≤ length out.old) }
+    ensures { out.new ≡ over 0 (table_for store.now records.now a s.closed r.nodes r.placed work.now) out.old }
 {
-    let n = s.closed;
-    let p = s.objects;
-    let mut t = 0;
-    while t < placed {
-        let i = node_at(work, a, nodes, placed, t);
-        let j = a.places + i;
-        let place = work[j] as usize;
-        let id = origin_of(work, a, n, nodes, i);
-        let o = closed_span(records, p, id.0 as usize);
-        let from = o.from;
-        let to = wide_end(from, o.to, store.len(), size - place);
-        write_object(&mut out[place..], &store[from..to], work, a, nodes, i);
-        t += 1;
+    for t in 0..r.placed {
+        let i = node_at(work, a, r.nodes, r.placed, t);
+        let place = work[a.places + i] as usize;
+        let id = origin_of(work, a, s.closed, r.nodes, i);
+        let o = closed_span(records, s.objects, id.0 as usize);
+        let to = wide_end(o.from, o.to, store.len(), r.length as usize - place);
+        write_object(&mut out[place..], &store[o.from..to], work, a, r.nodes, i);
     }
 }

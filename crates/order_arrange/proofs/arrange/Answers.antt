@@ -1,25 +1,19 @@
 -- `arrange` meets its contract: the kahn order, or what the later ones come to.
-use Rattle.order_arrange.proofs.Trying.{trying-kahn, kahn-fits, kahn-lines, later-asks, later-near, kahn-later}
+use Rattle.order_arrange.proofs.Trying.{kahn-fits, kahn-lines, later-asks, later-near, kahn-later}
 use Rattle.order_arrange.proofs.arrange.Goals as goal
 
-pub try_order-tried-requires : goal.try_order-tried-requires
-try_order-tried-requires c = trying-kahn c.requires
-
-pub returns-in_default : goal.returns-in_default
-returns-in_default c = kahn-fits c.requires c.try_order-tried.ensures c.in_default.is
+pub returns-then-is_ok : goal.returns-then-is_ok
+returns-then-is_ok c = rw c.uncopied.ensures (kahn-fits c.requires c.try_order-tried.ensures (rw c.is_ok.ensures.value at c.if-is_ok.true))
 
 pub find_distances-requires : goal.find_distances-requires
 find_distances-requires c = kahn-lines c.requires c.try_order-tried.ensures
 
 pub arrange_later-requires : goal.arrange_later-requires
 arrange_later-requires c =
-    let pre = c.requires in
     let tried = c.try_order-tried.ensures in
     let found = c.find_distances.ensures in
-    (later-asks pre tried found, later-near pre tried found)
+    (later-asks c.requires tried found, later-near c.requires tried found)
 
 pub returns : goal.returns
 returns c =
-    let pre = c.requires in
-    let tried = c.try_order-tried.ensures in
-    kahn-later pre tried c.find_distances.ensures c.in-Over.is c.arrange_later.ensures
+    kahn-later c.requires c.try_order-tried.ensures c.find_distances.ensures (rw c.is_ok.ensures.value at c.if-is_ok.false) c.arrange_later.ensures

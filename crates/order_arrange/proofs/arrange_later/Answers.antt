@@ -1,12 +1,11 @@
 -- `arrange_later` meets its contract: the shortest-distance order, or what the order by spaces comes to.
-use Rattle.order_arrange.proofs.Trying.{trying-distance, distance-fits, distance-spacing, spaces-asks, spaces-near, spaces-found, distance-later}
+use Rattle.order_arrange.proofs.Trying.{distance-fits, distance-spacing, spaces-asks, spaces-near, spaces-found, distance-later}
 use Rattle.order_arrange.proofs.arrange_later.Goals as goal
 
-pub try_order-tried-requires : goal.try_order-tried-requires
-try_order-tried-requires c = let pre = c.requires in trying-distance pre.0 pre.1
-
-pub returns-in_default : goal.returns-in_default
-returns-in_default c = let pre = c.requires in distance-fits pre.0 pre.1 c.try_order-tried.ensures c.in_default.is
+pub returns-then-is_ok : goal.returns-then-is_ok
+returns-then-is_ok c =
+    let pre = c.requires in
+    rw c.uncopied.ensures (distance-fits pre.0 pre.1 c.try_order-tried.ensures (rw c.is_ok.ensures.value at c.if-is_ok.true))
 
 pub number_spaces-requires : goal.number_spaces-requires
 number_spaces-requires c = let pre = c.requires in distance-spacing pre.0 pre.1 c.try_order-tried.ensures
@@ -21,4 +20,4 @@ resolve-requires c =
 pub returns : goal.returns
 returns c =
     let pre = c.requires in
-    distance-later pre.0 pre.1 c.try_order-tried.ensures c.number_spaces.ensures c.in-Over.is c.resolve.ensures
+    distance-later pre.0 pre.1 c.try_order-tried.ensures c.number_spaces.ensures (rw c.is_ok.ensures.value at c.if-is_ok.false) c.resolve.ensures

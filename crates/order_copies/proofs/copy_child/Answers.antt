@@ -1,6 +1,6 @@
 -- `copy_child` meets its contract: its steps joined.
 use mathlib.Core.Path.{refl}
-use Rattle.order_copies.proofs.Growing.{appending-asks, leading-asks, noting-asks, counting-asks, inserting-asks, child-copied}
+use Rattle.order_copies.proofs.Growing.{appending-asks, leading-asks, counting-asks, inserting-asks, child-copied}
 use Rattle.order_copies.proofs.copy_child.Goals as goal
 
 pub append_node-more-requires : goal.append_node-more-requires
@@ -12,12 +12,6 @@ pub lead_link-requires : goal.lead_link-requires
 lead_link-requires c =
     let pre = c.requires in
     leading-asks pre c.find_link-t.ensures c.field_at-f.ensures c.append_node-more.ensures
-
-pub note_copy-requires : goal.note_copy-requires
-note_copy-requires c =
-    let pre = c.requires in
-    noting-asks pre c.find_link-t.ensures c.field_at-f.ensures c.append_node-more.ensures
-    c.lead_link.ensures
 
 pub count_copy-requires : goal.count_copy-requires
 count_copy-requires c =

@@ -1,10 +1,6 @@
 -- `look_all` meets its contract: the look through the nodes left gives the answer that is promised.
-use Prim.Native.Nat.{◌-◌}
 use Rattle.order_fit.proofs.Looking.{Seeking}
 use Rattle.order_fit.proofs.look_all.Given as goal
 
 abbrev pub invariant-loop-t : goal.invariant-loop-t
 invariant-loop-t l = Seeking l.a l.n l.r l.t l.work
-
-abbrev pub decreases-loop-t : goal.decreases-loop-t
-decreases-loop-t l = l.r - l.t

@@ -1,10 +1,6 @@
 -- `look_links` meets its contract: the look through the links left gives the answer that is promised.
-use Prim.Native.Nat.{◌-◌}
 use Rattle.order_fit.proofs.Looking.{Looking}
 use Rattle.order_fit.proofs.look_links.Given as goal
 
 abbrev pub invariant-loop-t : goal.invariant-loop-t
 invariant-loop-t l = Looking l.a l.n l.i l.t l.work
-
-abbrev pub decreases-loop-t : goal.decreases-loop-t
-decreases-loop-t l = l.count - l.t

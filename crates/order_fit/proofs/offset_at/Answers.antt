@@ -6,4 +6,4 @@ use Rattle.order_fit.proofs.offset_at.Goals as goal
 
 pub returns : goal.returns
 returns c =
-    c.less-2.ensures ∙ ap (λ (k : ℕ). k - c.args.f.inner) c.less.ensures ∙ offset_read c.requires.0 _ c.requires.1
+    c.saturating_sub-2.ensures ∙ ap (λ (k : ℕ). k - c.args.f.inner) c.saturating_sub.ensures ∙ offset_read c.requires.0 _ c.requires.1

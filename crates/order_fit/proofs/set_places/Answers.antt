@@ -1,17 +1,13 @@
 -- `set_places` meets its contract: the places left, set in the memory as it is now, are those that are promised.
 use native.Mathlib.Omega.{arith}
-use Rattle.order_fit.proofs.Summing.{summing-none, summing-placing, size-light, summing-next, summing-all}
+use Rattle.order_fit.proofs.Summing.{summing-placing, size-light, summing-next, summing-all}
 use Rattle.order_fit.proofs.set_places.Goals as goal
-
-pub loop-t-init : goal.loop-t-init
-loop-t-init c = summing-none _ _ _ _
 
 pub node_at-i-requires : goal.node_at-i-requires
 node_at-i-requires c = (c.loop-t-test.true, summing-placing c.requires c.loop-t.invariant)
 
 pub overflow_add-at : goal.overflow_add-at
-overflow_add-at c =
-    omega (arith, size-light c.requires c.loop-t.invariant c.node_at-i.ensures.0)
+overflow_add-at c = omega (arith, size-light c.requires c.loop-t.invariant c.node_at-i.ensures.0)
 
 pub loop-t-preserved : goal.loop-t-preserved
 loop-t-preserved c =

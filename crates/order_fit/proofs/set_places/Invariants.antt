@@ -1,10 +1,6 @@
 -- `set_places` meets its contract: the places left, set in the memory as it is now, are those that are promised.
-use Prim.Native.Nat.{◌-◌}
 use Rattle.order_fit.proofs.Summing.{Summing}
 use Rattle.order_fit.proofs.set_places.Given as goal
 
 abbrev pub invariant-loop-t : goal.invariant-loop-t
 invariant-loop-t l = Summing l.a l.n l.r l.t l.at l.initial.work l.work
-
-abbrev pub decreases-loop-t : goal.decreases-loop-t
-decreases-loop-t l = l.r - l.t

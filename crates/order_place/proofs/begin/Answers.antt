@@ -1,11 +1,6 @@
 -- `begin` meets its contract: the counts copied, and the root stored.
-use native.Mathlib.Omega.{arith}
-use Rattle.regions.specs.Region.{before}
 use Rattle.order_place.proofs.Starting.{begun}
 use Rattle.order_place.proofs.begin.Goals as goal
-
-pub copy-requires : goal.copy-requires
-copy-requires c = (before (omega arith), omega arith, omega arith)
 
 pub returns : goal.returns
 returns c =

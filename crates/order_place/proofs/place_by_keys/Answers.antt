@@ -1,10 +1,6 @@
 -- `place_by_keys` meets its contract: the root alone is in the heap, and all is placed from there.
-use Rattle.order_place.proofs.Starting.{in-arrived}
 use Rattle.order_place.proofs.Rooting.{root-pushing, root-heap, root-found}
 use Rattle.order_place.proofs.place_by_keys.Goals as goal
-
-pub begin-requires : goal.begin-requires
-begin-requires c = let start = c.requires.0 in (start, in-arrived start.graph.apart)
 
 pub push_arrivals-requires : goal.push_arrivals-requires
 push_arrivals-requires c =

@@ -1,14 +1,9 @@
 -- `place_heap` meets its contract: the ready nodes are in the heap, before and after every turn.
-use native.Mathlib.Omega.{arith}
-use Rattle.order_place.proofs.Heaping.{heaping-first, heap-take, heap-placed, heap-pushing, heap-next, heap-last}
+use Rattle.order_place.proofs.Heaping.{heaping-first, heap-placed, heap-pushing, heap-next, heap-last}
 use Rattle.order_place.proofs.place_heap.Goals as goal
 
 pub loop-q-init : goal.loop-q-init
 loop-q-init c = heaping-first c.requires
-
-pub take_least-i-requires : goal.take_least-i-requires
-take_least-i-requires c =
-    (omega arith, heap-take c.requires c.loop-q.invariant c.loop-q-test.true)
 
 pub release_all-more-requires : goal.release_all-more-requires
 release_all-more-requires c =

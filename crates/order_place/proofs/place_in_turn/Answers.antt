@@ -2,9 +2,6 @@
 use Rattle.order_place.proofs.Starting.{begun-ready, found-kept, in_order}
 use Rattle.order_place.proofs.place_in_turn.Goals as goal
 
-pub begin-requires : goal.begin-requires
-begin-requires c = let start = c.requires in (start, in_order start.graph.apart)
-
 pub place_queue-requires : goal.place_queue-requires
 place_queue-requires c =
     let start = c.requires in

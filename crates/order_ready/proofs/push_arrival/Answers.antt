@@ -1,7 +1,7 @@
 -- `push_arrival` meets its contract: the stamp of the node that is last of those that became ready goes into the heap.
 use native.Mathlib.Omega.{arith}
 use Rattle.order_ready.proofs.Lent.{lent-pushed}
-use Rattle.order_ready.proofs.Heaps.{node-known, key-small, push-asks, pushed-one}
+use Rattle.order_ready.proofs.Heaps.{node-known, key-small, pushed-one}
 use Rattle.order_ready.proofs.push_arrival.Goals as goal
 
 pub overflow_add-at : goal.overflow_add-at
@@ -23,9 +23,6 @@ pub stamp_of-stamp-requires : goal.stamp_of-stamp-requires
 stamp_of-stamp-requires c =
     let s = c.requires in
     (key-small s _ (omega (arith, node-known s)), omega arith)
-
-pub push-requires : goal.push-requires
-push-requires c = push-asks c.requires
 
 pub returns : goal.returns
 returns c =

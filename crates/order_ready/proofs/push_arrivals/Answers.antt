@@ -1,10 +1,7 @@
 -- `push_arrivals` meets its contract: one push after the other.
 use native.Mathlib.Omega.{arith}
-use Rattle.order_ready.proofs.Heaps.{pushes-none, pushes-asks, pushes-next, pushes_all}
+use Rattle.order_ready.proofs.Heaps.{pushes-asks, pushes-next}
 use Rattle.order_ready.proofs.push_arrivals.Goals as goal
-
-pub loop-j-init : goal.loop-j-init
-loop-j-init c = pushes-none c.requires
 
 pub push_arrival-requires : goal.push_arrival-requires
 push_arrival-requires c =
@@ -17,9 +14,3 @@ loop-j-preserved c =
     let pre = c.requires in
     let inv = c.loop-j.invariant in
     pushes-next pre inv (omega arith) c.push_arrival.ensures
-
-pub returns : goal.returns
-returns c =
-    let pre = c.requires in
-    let inv = c.loop-j.invariant in
-    pushes_all pre inv (omega arith)

@@ -1,13 +1,8 @@
 -- `take_least` meets its contract: the least stamp is of the node that arrived under the number it holds.
 use native.Mathlib.Omega.{arith}
 use Rattle.order_ready.proofs.Lent.{lent-popped}
-use Rattle.order_ready.proofs.Heaps.{pop-asks, took-inside, took-least}
+use Rattle.order_ready.proofs.Heaps.{took-inside, took-least}
 use Rattle.order_ready.proofs.take_least.Goals as goal
-
-pub pop-stamp-requires : goal.pop-stamp-requires
-pop-stamp-requires c =
-    let pre = c.requires in
-    pop-asks pre.0 pre.1
 
 pub bounds-work-at : goal.bounds-work-at
 bounds-work-at c =

@@ -4,7 +4,7 @@ use Rattle.order_resolve.proofs.resolve.Given as goal
 
 abbrev pub invariant-loop-u : goal.invariant-loop-u
 invariant-loop-u l =
-    Turn l.a l.n l.links l.root l.copies l.nodes l.taken l.length l.left l.initial.work l.work
+    Turn l.a l.o.nodes l.o.links l.o.root l.o.copies l.nodes l.links l.length l.left l.initial.work l.work
 
 abbrev pub decreases-loop-u : goal.decreases-loop-u
 decreases-loop-u l = l.left

@@ -3,27 +3,13 @@ use Rattle.order_spaces.proofs.Finishing.{spacing-ordered, marked-joining, joine
 use Rattle.order_spaces.proofs.number_spaces.Goals as goal
 
 pub mark_near-requires : goal.mark_near-requires
-mark_near-requires c =
-    let pre = c.requires in
-    spacing-ordered pre
+mark_near-requires c = spacing-ordered c.requires
 
 pub join_sets-requires : goal.join_sets-requires
-join_sets-requires c =
-    let pre = c.requires in
-    let mark-near = c.mark_near.ensures in
-    marked-joining pre mark-near
+join_sets-requires c = marked-joining c.requires c.mark_near.ensures
 
 pub number_sets-requires : goal.number_sets-requires
-number_sets-requires c =
-    let pre = c.requires in
-    let mark-near = c.mark_near.ensures in
-    let join-sets = c.join_sets.ensures in
-    joined-bossed pre mark-near join-sets
+number_sets-requires c = joined-bossed c.requires c.mark_near.ensures c.join_sets.ensures
 
 pub returns : goal.returns
-returns c =
-    let pre = c.requires in
-    let mark-near = c.mark_near.ensures in
-    let join-sets = c.join_sets.ensures in
-    let number-sets = c.number_sets.ensures in
-    spaced pre mark-near join-sets number-sets
+returns c = spaced c.requires c.mark_near.ensures c.join_sets.ensures c.number_sets.ensures

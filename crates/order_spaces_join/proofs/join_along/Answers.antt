@@ -1,36 +1,17 @@
 -- `join_along` meets its contract: the nodes left, with the sets as they are now, give the sets that are promised.
-use Rattle.order_spaces_join.proofs.Tying.{along-none, along-asks, along-in, along-low, along-skip, along-next, along-all}
 use native.Mathlib.Omega.{arith}
+use Rattle.order_spaces_join.proofs.Tying.{along-asks, along-in, along-low, along-skip, along-next, along-all}
+use Rattle.order_spaces_join.proofs.join_along.Goals.{then-x-ne0, else-x-ne0}
 use Rattle.order_spaces_join.proofs.join_along.Goals as goal
 
-pub loop-t-init : goal.loop-t-init
-loop-t-init c =
-    let pre = c.requires in
-    along-none pre
+pub overflow_add-x : goal.overflow_add-x
+overflow_add-x c = omega (arith, along-in c.requires c.loop-t.invariant (omega arith))
 
-pub overflow_add-k : goal.overflow_add-k
-overflow_add-k c =
-    let pre = c.requires in
-    let inv = c.loop-t.invariant in
-    omega (arith, along-in pre inv (omega arith))
+pub offset_bounds-work-a-in-loop-t : goal.offset_bounds-work-a-in-loop-t
+offset_bounds-work-a-in-loop-t c = omega (arith, along-in c.requires c.loop-t.invariant (omega arith))
 
-pub offset_bounds-work-k : goal.offset_bounds-work-k
-offset_bounds-work-k c =
-    let pre = c.requires in
-    let inv = c.loop-t.invariant in
-    omega (arith, along-in pre inv (omega arith))
-
-pub bounds-work-k : goal.bounds-work-k
-bounds-work-k c =
-    let pre = c.requires in
-    let inv = c.loop-t.invariant in
-    omega (arith, along-in pre inv (omega arith))
-
-pub loop-t-preserved-then-x-eq0 : goal.loop-t-preserved-then-x-eq0
-loop-t-preserved-then-x-eq0 c =
-    let pre = c.requires in
-    let inv = c.loop-t.invariant in
-    along-skip pre inv (omega arith) c.if-x-eq0.true
+pub bounds-work-a-in-loop-t : goal.bounds-work-a-in-loop-t
+bounds-work-a-in-loop-t c = omega (arith, along-in c.requires c.loop-t.invariant (omega arith))
 
 pub join_links-requires : goal.join_links-requires
 join_links-requires c =
@@ -40,13 +21,11 @@ join_links-requires c =
 
 pub loop-t-preserved : goal.loop-t-preserved
 loop-t-preserved c =
-    let pre = c.requires in
     let inv = c.loop-t.invariant in
-    let join-links = c.join_links.ensures in
-    along-next pre inv (omega arith) c.if-x-eq0.false join-links
+    elim c.if-x-ne0.branch [
+      | then-x-ne0 w ↦ rw w.work-is (along-next c.requires inv (omega arith) w.if-x-ne0.true w.join_links.ensures)
+      | else-x-ne0 w ↦ rw w.work-is (along-skip c.requires inv (omega arith) w.if-x-ne0.false)
+    ]
 
 pub returns : goal.returns
-returns c =
-    let pre = c.requires in
-    let inv = c.loop-t.invariant in
-    along-all pre inv (omega arith)
+returns c = along-all c.requires c.loop-t.invariant (omega arith)

@@ -3,14 +3,7 @@ use Rattle.order_spaces_join.proofs.Bossing.{sets-tying, sets-joined}
 use Rattle.order_spaces_join.proofs.join_sets.Goals as goal
 
 pub join_along-requires : goal.join_along-requires
-join_along-requires c =
-    let pre = c.requires in
-    let set-bosses = c.set_bosses.ensures in
-    sets-tying pre set-bosses
+join_along-requires c = sets-tying c.requires c.set_bosses.ensures
 
 pub returns : goal.returns
-returns c =
-    let pre = c.requires in
-    let set-bosses = c.set_bosses.ensures in
-    let join-along = c.join_along.ensures in
-    sets-joined pre set-bosses join-along
+returns c = sets-joined c.requires c.set_bosses.ensures c.join_along.ensures

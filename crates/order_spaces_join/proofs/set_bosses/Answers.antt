@@ -1,37 +1,16 @@
 -- `set_bosses` meets its contract: each boss is pushed behind those before it.
-use Rattle.order_spaces_join.proofs.Bossing.{bossing-none, bossing-in, bossing-next, bossing-all}
 use native.Mathlib.Omega.{arith}
+use Rattle.order_spaces_join.proofs.Bossing.{bossing-in, bossing-next}
 use Rattle.order_spaces_join.proofs.set_bosses.Goals as goal
 
-pub loop-t-init : goal.loop-t-init
-loop-t-init c = bossing-none _ _ _
+pub overflow_add-work : goal.overflow_add-work
+overflow_add-work c = omega (arith, bossing-in c.requires c.loop-t.invariant (omega arith))
 
-pub overflow_add-k : goal.overflow_add-k
-overflow_add-k c =
-    let pre = c.requires in
-    let inv = c.loop-t.invariant in
-    omega (arith, bossing-in pre inv (omega arith))
+pub offset_bounds-work-a-in-loop-t : goal.offset_bounds-work-a-in-loop-t
+offset_bounds-work-a-in-loop-t c = omega (arith, bossing-in c.requires c.loop-t.invariant (omega arith))
 
-pub offset_bounds-work-k : goal.offset_bounds-work-k
-offset_bounds-work-k c =
-    let pre = c.requires in
-    let inv = c.loop-t.invariant in
-    omega (arith, bossing-in pre inv (omega arith))
-
-pub bounds-work-k : goal.bounds-work-k
-bounds-work-k c =
-    let pre = c.requires in
-    let inv = c.loop-t.invariant in
-    omega (arith, bossing-in pre inv (omega arith))
+pub bounds-work-a-in-loop-t : goal.bounds-work-a-in-loop-t
+bounds-work-a-in-loop-t c = omega (arith, bossing-in c.requires c.loop-t.invariant (omega arith))
 
 pub loop-t-preserved : goal.loop-t-preserved
-loop-t-preserved c =
-    let pre = c.requires in
-    let inv = c.loop-t.invariant in
-    bossing-next pre inv (omega arith)
-
-pub returns : goal.returns
-returns c =
-    let pre = c.requires in
-    let inv = c.loop-t.invariant in
-    bossing-all pre inv (omega arith)
+loop-t-preserved c = bossing-next c.requires c.loop-t.invariant (omega arith)

@@ -1,10 +1,6 @@
 -- `set_bosses` meets its contract: each boss is pushed behind those before it.
 use Rattle.order_spaces_join.proofs.Bossing.{Bossing}
-use Prim.Native.Nat.{◌-◌}
 use Rattle.order_spaces_join.proofs.set_bosses.Given as goal
 
 abbrev pub invariant-loop-t : goal.invariant-loop-t
 invariant-loop-t l = Bossing l.a l.r l.t l.initial.work l.work
-
-abbrev pub decreases-loop-t : goal.decreases-loop-t
-decreases-loop-t l = l.r - l.t

@@ -1,13 +1,6 @@
 -- `clear_links` meets its contract: the links left, taken up in the memory as it is now, give what is promised.
 use Rattle.order_spaces_near.proofs.Clearing.{Clearing}
-use Rattle.order_graph.specs.Graph.{link_count}
-use lib.ListN.{take}
-use Prim.Native.Nat.{◌-◌}
-use mathlib.Core.Path.{◌≡◌}
 use Rattle.order_spaces_near.proofs.clear_links.Given as goal
 
 abbrev pub invariant-loop-t : goal.invariant-loop-t
-invariant-loop-t l = Clearing l.a l.n l.i l.t l.initial.work l.work × (l.count ≡ link_count l.a (take l.a.keys l.initial.work) l.i)
-
-abbrev pub decreases-loop-t : goal.decreases-loop-t
-decreases-loop-t l = l.count - l.t
+invariant-loop-t l = Clearing l.a l.n l.i l.t l.initial.work l.work

@@ -3,14 +3,7 @@ use Rattle.order_spaces_near.proofs.Clearing.{marked-asks, marked}
 use Rattle.order_spaces_near.proofs.mark_near.Goals as goal
 
 pub clear_along-requires : goal.clear_along-requires
-clear_along-requires c =
-    let pre = c.requires in
-    let set-spots = c.set_spots.ensures in
-    marked-asks pre set-spots
+clear_along-requires c = marked-asks c.requires c.set_spots.ensures
 
 pub returns : goal.returns
-returns c =
-    let pre = c.requires in
-    let set-spots = c.set_spots.ensures in
-    let clear-along = c.clear_along.ensures in
-    marked pre set-spots clear-along
+returns c = marked c.requires c.set_spots.ensures c.clear_along.ensures

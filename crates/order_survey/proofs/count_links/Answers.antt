@@ -5,27 +5,24 @@ use Rattle.order_graph.proofs.Links.{from-kept}
 use Rattle.order_survey.proofs.count_links.Goals as goal
 
 pub loop-t-init : goal.loop-t-init
-loop-t-init c = (counts-none c.requires, c.link_count-count.ensures)
+loop-t-init c = counts-none c.requires
 
 pub field_from-f-requires : goal.field_from-f-requires
 field_from-f-requires c =
-    let pre = c.requires in
-    let inv = c.loop-t.invariant in
-    from-kept pre.node inv.0.kept (omega arith) (omega arith) c.links_at-from.ensures
+    let count = c.link_count-count.ensures in
+    from-kept c.requires.node c.loop-t.invariant.kept (omega arith) (omega arith) c.links_at-from.ensures
 
-pub overflow_add-work : goal.overflow_add-work
-overflow_add-work c =
-    let pre = c.requires in
-    let inv = c.loop-t.invariant in
-    let field-from = c.field_from-f.ensures in
-    omega (arith, counts-room pre inv.0 _ field-from.known (omega arith))
+pub overflow_add-work-in-loop-t : goal.overflow_add-work-in-loop-t
+overflow_add-work-in-loop-t c =
+    let count = c.link_count-count.ensures in
+    omega (arith, counts-room c.requires c.loop-t.invariant _ c.field_from-f.ensures.known (omega arith))
 
 pub loop-t-preserved : goal.loop-t-preserved
 loop-t-preserved c =
-    let pre = c.requires in
-    let inv = c.loop-t.invariant in
-    let field-from = c.field_from-f.ensures in
-    (counts-next pre inv.0 field-from (omega arith), inv.1)
+    let count = c.link_count-count.ensures in
+    counts-next c.requires c.loop-t.invariant c.field_from-f.ensures (omega arith)
 
 pub returns : goal.returns
-returns c = counts_all c.requires c.loop-t.invariant.0 (omega arith)
+returns c =
+    let count = c.link_count-count.ensures in
+    counts_all c.requires c.loop-t.invariant (omega arith)

@@ -6,26 +6,14 @@ use Rattle.order_survey.proofs.line_down.Goals as goal
 pub loop-i-init : goal.loop-i-init
 loop-i-init c = falls-none c.requires
 
-pub loop-i-preserved-then-work-j-eq0 : goal.loop-i-preserved-then-work-j-eq0
-loop-i-preserved-then-work-j-eq0 c =
-    let pre = c.requires in
-    let inv = c.loop-i.invariant in
-    let if1 = c.if-work-j-eq0.true in
-    falls-skip pre inv (omega arith) if1
-
 pub count_links-requires : goal.count_links-requires
-count_links-requires c =
-    let pre = c.requires in
-    let inv = c.loop-i.invariant in
-    falls-asks pre inv (omega arith)
+count_links-requires c = falls-asks c.requires c.loop-i.invariant (omega arith)
+
+pub loop-i-preserved-then-work-a-ne0 : goal.loop-i-preserved-then-work-a-ne0
+loop-i-preserved-then-work-a-ne0 c = falls-next c.requires c.loop-i.invariant (omega arith) c.count_links.ensures c.if-work-a-ne0.true
 
 pub loop-i-preserved : goal.loop-i-preserved
-loop-i-preserved c =
-    let pre = c.requires in
-    let inv = c.loop-i.invariant in
-    let count-links = c.count_links.ensures in
-    let if1 = c.if-work-j-eq0.false in
-    falls-next pre inv (omega arith) count-links if1
+loop-i-preserved c = falls-skip c.requires c.loop-i.invariant (omega arith) c.if-work-a-ne0.false
 
 pub returns : goal.returns
 returns c = falls-all c.requires c.loop-i.invariant (omega arith)

@@ -4,6 +4,3 @@ use Rattle.order_survey.proofs.line_down.Given as goal
 
 abbrev pub invariant-loop-i : goal.invariant-loop-i
 invariant-loop-i l = Falls l.a l.n l.root l.i l.r l.initial.work l.work
-
-abbrev pub decreases-loop-i : goal.decreases-loop-i
-decreases-loop-i l = l.i

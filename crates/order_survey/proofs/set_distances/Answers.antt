@@ -1,23 +1,15 @@
--- `set_distances` meets its contract: the distances along the line from their start.
-use Rattle.order_survey.proofs.Lowers.{begun-along, begun-near, begun-set}
+-- `set_distances` meets its contract: the distances along the line from their start, whichever way they are lowered.
+use Rattle.order_survey.proofs.Lowers.{begun-asks, begun-set}
 use Rattle.order_survey.proofs.set_distances.Goals as goal
 
 pub lower_along-requires : goal.lower_along-requires
-lower_along-requires c =
-    let pre = c.requires in
-    let fill = c.fill.ensures in
-    (begun-along pre.1 pre.0 fill, begun-near pre.1 pre.0 fill)
+lower_along-requires c = begun-asks c.requires.1 c.requires.0 c.fill.ensures
 
-pub shape_of-work : goal.shape_of-work
-shape_of-work c =
-    let pre = c.requires in
-    let fill = c.fill.ensures in
-    let lower-along = c.lower_along.ensures in
-    (begun-set pre.1 pre.0 fill lower-along).kept.long
+pub lower_along-requires-else-runs : goal.lower_along-requires-else-runs
+lower_along-requires-else-runs c = begun-asks c.requires.1 c.requires.0 c.fill.ensures
 
-pub returns : goal.returns
-returns c =
-    let pre = c.requires in
-    let fill = c.fill.ensures in
-    let lower-along = c.lower_along.ensures in
-    begun-set pre.1 pre.0 fill lower-along
+pub returns-then-runs : goal.returns-then-runs
+returns-then-runs c = begun-set c.requires.1 c.requires.0 c.fill.ensures c.lower_along.ensures
+
+pub returns-else-runs : goal.returns-else-runs
+returns-else-runs c = begun-set c.requires.1 c.requires.0 c.fill.ensures c.lower_along-else-runs.ensures

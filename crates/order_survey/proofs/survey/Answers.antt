@@ -3,10 +3,7 @@ use Rattle.order_survey.proofs.Surveys.{cleared-along, survey-all}
 use Rattle.order_survey.proofs.survey.Goals as goal
 
 pub line_length-requires : goal.line_length-requires
-line_length-requires c =
-    cleared-along c.requires.0 c.find_line-r.ensures
+line_length-requires c = cleared-along c.requires.0 c.find_line-r.ensures
 
 pub returns : goal.returns
-returns c =
-    let pre = c.requires in
-    survey-all pre.0 c.find_line-r.ensures pre.1 c.line_length.ensures
+returns c = survey-all c.requires.0 c.find_line-r.ensures c.requires.1 c.line_length.ensures

@@ -16,22 +16,22 @@ tally_of-t-requires c =
 pub returns-then-copies-gt-MOST_COPIES : goal.returns-then-copies-gt-MOST_COPIES
 returns-then-copies-gt-MOST_COPIES c =
     let h = held c.read-s.ensures c.tally_of-t.ensures in
-    pack-many h _ _ _ _ c.none.ensures c.if-copies-gt-MOST_COPIES.true
+    rw c.with.ensures (pack-many h _ _ _ _ c.none.ensures c.if-copies-gt-MOST_COPIES.true)
 
 pub returns-then-work-a : goal.returns-then-work-a
 returns-then-work-a c =
     let h = held c.read-s.ensures c.tally_of-t.ensures in
-    pack-little h _ _ _ _ c.if-copies-gt-MOST_COPIES.false c.none-then-work-a.ensures (rw c.with_copies-a.ensures at c.if-work-a.true)
+    rw c.with-then-work-a.ensures (pack-little h _ _ _ _ c.if-copies-gt-MOST_COPIES.false c.none-then-work-a.ensures (rw c.with_copies-a.ensures at c.if-work-a.true))
 
 pub returns-then-t-gt0 : goal.returns-then-t-gt0
 returns-then-t-gt0 c =
     let h = held c.read-s.ensures c.tally_of-t.ensures in
-    pack-open h _ _ _ _ c.if-copies-gt-MOST_COPIES.false (rw c.with_copies-a.ensures at c.if-work-a.false) (omega (arith, c.if-t-gt0.true))
+    rw c.with-then-t-gt0.ensures (pack-open h _ _ _ _ c.if-copies-gt-MOST_COPIES.false (rw c.with_copies-a.ensures at c.if-work-a.false) (omega (arith, c.if-t-gt0.true)))
 
 pub returns-then-t-id : goal.returns-then-t-id
 returns-then-t-id c =
     let h = held c.read-s.ensures c.tally_of-t.ensures in
-    pack-unknown h _ _ _ _ c.if-copies-gt-MOST_COPIES.false (rw c.with_copies-a.ensures at c.if-work-a.false) c.if-t-gt0.false (omega (arith, c.if-t-id.true))
+    rw c.with-then-t-id.ensures (pack-unknown h _ _ _ _ c.if-copies-gt-MOST_COPIES.false (rw c.with_copies-a.ensures at c.if-work-a.false) c.if-t-gt0.false (omega (arith, c.if-t-id.true)))
 
 pub pack_graph-answer-requires : goal.pack_graph-answer-requires
 pack_graph-answer-requires c =

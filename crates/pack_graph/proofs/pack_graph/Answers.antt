@@ -12,13 +12,10 @@ pub arrange-r-requires : goal.arrange-r-requires
 arrange-r-requires c = pack-arranging c.requires c.copy_graph.ensures c.survey-size.ensures
 
 pub write_fitting-requires : goal.write_fitting-requires
-write_fitting-requires c =
-    pack-fitting c.requires c.copy_graph.ensures c.survey-size.ensures c.arrange-r.ensures c.in_default.is
+write_fitting-requires c = pack-fitting c.requires c.copy_graph.ensures c.survey-size.ensures c.arrange-r.ensures c.in-Ok.is
 
-pub returns-in_default : goal.returns-in_default
-returns-in_default c =
-    pack-written c.requires c.copy_graph.ensures c.survey-size.ensures c.arrange-r.ensures c.in_default.is c.write_fitting.ensures
+pub returns-in-Ok : goal.returns-in-Ok
+returns-in-Ok c = pack-written c.requires c.copy_graph.ensures c.survey-size.ensures c.arrange-r.ensures c.in-Ok.is c.write_fitting.ensures
 
-pub returns : goal.returns
-returns c =
-    pack-over c.requires c.copy_graph.ensures c.survey-size.ensures c.arrange-r.ensures _ c.in-Over.is
+pub returns-in-Err : goal.returns-in-Err
+returns-in-Err c = rw c.with.ensures (pack-over c.requires c.copy_graph.ensures c.survey-size.ensures c.arrange-r.ensures _ c.in-Err.is)

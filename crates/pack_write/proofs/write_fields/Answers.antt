@@ -1,14 +1,10 @@
 -- `write_fields` meets its contract: the fields left, filled into the bytes as they are, give what is promised.
 use native.Mathlib.Omega.{arith}
-use Rattle.pack_write.proofs.Fields.{fields-none, field-inside, fields-next, fields-all}
+use Rattle.pack_write.proofs.Fields.{field-inside, fields-next, fields-all}
 use Rattle.pack_write.proofs.write_fields.Goals as goal
 
-pub loop-t-init : goal.loop-t-init
-loop-t-init c = let pre = c.requires in fields-none pre.0 pre.1
-
 pub write-requires : goal.write-requires
-write-requires c =
-    field-inside c.requires.0 c.loop-t.invariant (omega arith) c.field_from-f.ensures
+write-requires c = field-inside c.requires.0 c.loop-t.invariant (omega arith) c.field_from-f.ensures
 
 pub loop-t-preserved : goal.loop-t-preserved
 loop-t-preserved c =

@@ -2,8 +2,8 @@
 use Rattle.order_copies.proofs.Inserting.{Moving}
 use Rattle.order_copies.proofs.note.put_behind.Given as goal
 
-abbrev pub invariant-loop-a : goal.invariant-loop-a
-invariant-loop-a l = Moving l.a l.r l.x l.i l.initial.work l.work
+abbrev pub invariant-loop-work : goal.invariant-loop-work
+invariant-loop-work l = Moving l.a l.r l.x l.i l.initial.work l.work
 
-abbrev pub decreases-loop-a : goal.decreases-loop-a
-decreases-loop-a l = l.i
+abbrev pub decreases-loop-work : goal.decreases-loop-work
+decreases-loop-work l = l.i

@@ -1,10 +1,6 @@
 -- `number_along` meets its contract: a store at one node leaves the numbers of the others.
 use Rattle.order_spaces.proofs.Counting.{Counting}
-use Prim.Native.Nat.{◌-◌}
 use Rattle.order_spaces.proofs.number.number_along.Given as goal
 
 abbrev pub invariant-loop-t : goal.invariant-loop-t
 invariant-loop-t l = Counting l.a l.r l.t l.next l.initial.work l.work
-
-abbrev pub decreases-loop-t : goal.decreases-loop-t
-decreases-loop-t l = l.r - l.t

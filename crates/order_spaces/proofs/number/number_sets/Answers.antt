@@ -3,14 +3,7 @@ use Rattle.order_spaces.proofs.Counting.{numbers-asks, numbers-set}
 use Rattle.order_spaces.proofs.number.number_sets.Goals as goal
 
 pub number_along-requires : goal.number_along-requires
-number_along-requires c =
-    let pre = c.requires in
-    let fill = c.fill.ensures in
-    numbers-asks pre fill
+number_along-requires c = numbers-asks c.requires c.fill.ensures
 
 pub returns : goal.returns
-returns c =
-    let pre = c.requires in
-    let fill = c.fill.ensures in
-    let number-along = c.number_along.ensures in
-    numbers-set pre fill number-along
+returns c = numbers-set c.requires c.fill.ensures c.number_along.ensures

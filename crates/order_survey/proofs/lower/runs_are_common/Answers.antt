@@ -1,4 +1,4 @@
--- `runs_are_common` reads nodes of the line alone, and ends.
+-- `runs_are_common` reads nodes of the line alone.
 use native.Mathlib.Omega.{arith}
 use Rattle.order_survey.proofs.Nodes.{line-node}
 use Rattle.order_survey.proofs.lower.runs_are_common.Goals as goal
