@@ -23,7 +23,7 @@ use Rattle.steps.specs.Mirrored.{Step, by_history}
 use Rattle.gsub.specs.declared.Kind.{Kind}
 use Rattle.gsub.specs.declared.Field.{Field}
 use Rattle.gsub.specs.Tables.{fields_at}
-use Rattle.gsub.specs.Ops.{Act, keep, follow, refuse, value_at, act, Op, begin, put, link, end, stop, act_ops, fields_ops, table_ops, Outcome, outcome, go_on, perform}
+use Rattle.gsub.specs.Ops.{Act, keep, follow, refuse, value_at, act, Op, begin, link, end, stop, act_ops, fields_ops, table_ops, Outcome, outcome, go_on, perform}
 use Rattle.gsub.specs.Meaning.{act_bytes, own_bytes, act_reading, fields_reading, table_reading}
 use Rattle.gsub.specs.Promote.{Mode, plain, bytes_in, place_in, child_mode, child_place, mode_ops, mode_reading}
 use Rattle.gsub.proofs.Plain.{plain-ops, plain-reading}

@@ -6,6 +6,7 @@ use mathlib.Core.Bool.{Bool, true, false}
 use native.Mathlib.Omega.{arith}
 use borrow.Author.Tests.{eqb-true, ltb-true}
 use lib.Dec.{eqb, ltb}
+use Rattle.std.specs.Prelude.{Option, Some, None}
 use Rattle.lists.specs.Lists.{pick}
 use Rattle.big_endian.specs.BigEndian.{capacity}
 use Rattle.model_orders.specs.Reading.{Reading}
@@ -17,7 +18,7 @@ use Rattle.gsub.specs.declared.Field.{Field}
 use Rattle.gsub.specs.Tables.{uint16, is, offset16, offset32, header10, header11, lookup_of, extension_of, Shape, by_number, formats, shape, fields_of, laid, size, fields_at, single_subst1, single_subst2}
 use Rattle.gsub.specs.Ops.{Op, ops_by, table_ops}
 use Rattle.gsub.specs.Meaning.{reading_by, table_reading, deepest, gsub_reading}
-use Rattle.gsub.specs.Substitute.{Index, none, at, in_glyphs, in_ranges, coverage_index, single, settled, subtable, type_of, by_subtables, substitute_in, word_of, child_of, substitute, word_from, child_from, far_from, substitute_from}
+use Rattle.gsub.specs.Substitute.{in_glyphs, in_ranges, coverage_index, single, settled, subtable, type_of, by_subtables, substitute_in, word_of, child_of, substitute, word_from, child_from, far_from, substitute_from}
 use Rattle.gsub.proofs.Again.{Clean}
 use Rattle.gsub.proofs.Formats.{each_shape, each_format, of-shape}
 use Rattle.gsub.proofs.Settled.{plain_at, front_plain}
@@ -195,9 +196,9 @@ module _ {T U : Type 0} (word : T → ℕ → ℕ) (child : T → ℕ → T) (wo
     index : coverage_index word child (child s 2) g ≡ coverage_index word' child' (child' r 2) g
     glyph : (i : ℕ) → single word child s g i ≡ single word' child' r g i
 
-  settled_same : (s : T) (r : U) (x : Index) {l m : ℕ} → SameSubtable s r → l ≡ m → settled word child s g x l ≡ settled word' child' r g x m
-  settled_same s r none h e = e
-  settled_same s r (at i) h e = h.glyph i
+  settled_same : (s : T) (r : U) (x : Option ℕ) {l m : ℕ} → SameSubtable s r → l ≡ m → settled word child s g x l ≡ settled word' child' r g x m
+  settled_same s r None h e = e
+  settled_same s r (Some i) h e = h.glyph i
 
   module _ (far : T → ℕ → T) (far' : U → ℕ → U) where
     -- the subtables of number j of two lookups: of the same type, and alike where that is 1

@@ -1,32 +1,27 @@
 -- docs/RULES.md, 11.10: what a lookup substitutes for a glyph, by the OpenType specification: of any tables whose numbers and offsets can be asked for.
-use Rattle.std.specs.Prelude.{ℕ, zero, suc, ◌+◌, ◌-◌, ◌*◌, ◌%◌, List, [], ◌&&◌, eqb, leb, ltb}
+use Rattle.std.specs.Prelude.{ℕ, zero, suc, ◌+◌, ◌-◌, ◌*◌, ◌%◌, List, [], ◌&&◌, eqb, leb, ltb, Option, Some, None}
 use Rattle.lists.specs.Lists.{pick}
 use Rattle.big_endian.specs.BigEndian.{capacity}
 use Rattle.model_orders.specs.Reading.{Reading, bytes, field, bytes_of}
 use Rattle.gsub.specs.Tables.{word_at, long_at}
 
--- a glyph's coverage index
-pub data Index : Type 0 where
-  none : Index
-  at : ℕ → Index
-
 -- `word t a` is the 16-bit number at a of the table t, `child t a` the table that its offset at a leads to
 module _ {T : Type 0} (word : T → ℕ → ℕ) (child : T → ℕ → T) where
-  -- ---- Coverage
+  -- ---- Coverage: a glyph's index
 
   -- the first of the glyphs from number i on, n of them left
-  unfoldable pub in_glyphs : T → ℕ → ℕ → ℕ → Index
-  in_glyphs t g i zero = none
-  in_glyphs t g i (suc n) = pick (eqb (word t (4 + 2 * i)) g) (at i) (in_glyphs t g (i + 1) n)
+  unfoldable pub in_glyphs : T → ℕ → ℕ → ℕ → Option ℕ
+  in_glyphs t g i zero = None
+  in_glyphs t g i (suc n) = pick (eqb (word t (4 + 2 * i)) g) (Some i) (in_glyphs t g (i + 1) n)
 
   -- the first of the ranges: startGlyphID, endGlyphID, startCoverageIndex
-  unfoldable pub in_ranges : T → ℕ → ℕ → ℕ → Index
-  in_ranges t g i zero = none
+  unfoldable pub in_ranges : T → ℕ → ℕ → ℕ → Option ℕ
+  in_ranges t g i zero = None
   in_ranges t g i (suc n) =
       let start = word t (4 + 6 * i) in
-      pick (leb start g && leb g (word t (6 + 6 * i))) (at (word t (8 + 6 * i) + (g - start))) (in_ranges t g (i + 1) n)
+      pick (leb start g && leb g (word t (6 + 6 * i))) (Some (word t (8 + 6 * i) + (g - start))) (in_ranges t g (i + 1) n)
 
-  unfoldable pub coverage_index : T → ℕ → Index
+  unfoldable pub coverage_index : T → ℕ → Option ℕ
   coverage_index t g = pick (eqb (word t 0) 1) (in_glyphs t g 0 (word t 2)) (in_ranges t g 0 (word t 2))
 
   -- ---- single substitution
@@ -36,9 +31,9 @@ module _ {T : Type 0} (word : T → ℕ → ℕ) (child : T → ℕ → T) where
   single t g i = pick (eqb (word t 0) 1) ((g + word t 4) % capacity 2) (pick (ltb i (word t 4)) (word t (6 + 2 * i)) g)
 
   -- the subtable t settles a glyph that it covers; others go on
-  abbrev pub settled : T → ℕ → Index → ℕ → ℕ
-  settled t g none later = later
-  settled t g (at i) later = single t g i
+  abbrev pub settled : T → ℕ → Option ℕ → ℕ → ℕ
+  settled t g None later = later
+  settled t g (Some i) later = single t g i
 
   -- ---- a Lookup; `far t a` is the table that the offset of four bytes at a leads to
 

@@ -1,6 +1,6 @@
 -- docs/RULES.md, section 16: a small table of each lookup type and format, of feature parameters and of feature variations, counted by hand; and the same damaged.
 use Rattle.std.specs.Prelude.{ℕ, ◌-◌, List, [], ◌∷◌, ◌++◌, length, take, drop, set}
-use Rattle.gsub.specs.Cases.{Case, small, extended, within, accepted, stops, Substitution, gives}
+use Rattle.gsub.specs.Cases.{Case, small, within, accepted, stops, Substitution, gives}
 
 -- the small table's lists, and one lookup of this type, whose subtable is the last part
 abbrev of : ℕ → List ℕ → List ℕ

@@ -7,10 +7,7 @@ ghost use Rattle.gsub.specs.Tables.{word_at};
 fn byte_at(table: &[u8], at: usize) -> usize
     ensures { (result ≡ get_or table.now at 0) × (result < 256) }
 {
-    if table.len() <= at {
-        return 0;
-    }
-    table[at] as usize
+    table.get(at).copied().unwrap_or(0).into()
 }
 
 // The 16-bit number at a place, zeros past the slice's end.

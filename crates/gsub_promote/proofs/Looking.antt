@@ -1,4 +1,5 @@
 -- The loop over the trials: what the look comes to from here on is what the whole comes to.
+use Rattle.std.specs.Prelude.{Ok, Err}
 use mathlib.Core.Path.{◌≡◌, refl, sym, ap, ◌∙◌}
 use Prim.Native.Nat.{ℕ, zero, suc, ◌+◌, ◌-◌, ◌≤◌, ◌<◌}
 use mathlib.Core.List.{List}
@@ -14,12 +15,11 @@ use Rattle.answer.specs.declared.Refusal.{Refusal}
 use Rattle.model.specs.Told.{Told}
 use Rattle.steps.specs.Runs.{Stores, Left, left, start, step_on}
 use Rattle.gsub.specs.declared.Scope.{Scope}
-use Rattle.gsub_promote.specs.declared.answers.PromoteAnswer.{PromoteAnswer}
-use Rattle.gsub_promote.specs.declared.answers.PromoteAnswer.TheVariants.{Refused}
-use Rattle.gsub_promote.specs.declared.trial.Tried.{Tried}
-use Rattle.gsub_promote.specs.declared.trial.Tried.TheVariants.{Ended, Unpacked}
+use Rattle.gsub_read.specs.declared.answers.Unread.{Unread}
+use Rattle.gsub_read.specs.declared.answers.Unread.TheVariants.{Refused}
+use Rattle.gsub_promote.specs.declared.answers.Promoted.{Promoted}
 use Rattle.gsub_promote.specs.Search.{Lent, trial, left_by, overflows, promote_left, ended, look_from, lookup_count, promote_step}
-use Rattle.gsub_promote.specs.Tried.{told_by_promote, answer_of, standing, TriedBy}
+use Rattle.gsub_promote.specs.Tried.{Tried, told_by_promote, standing, TriedBy}
 
 module _ (scope : Scope) (b : List ℕ) (objects links : ℕ) where
   -- a trial that is not refused 11 ends the look, and so does the last
@@ -51,46 +51,46 @@ module _ (scope : Scope) (b : List ℕ) (objects links : ℕ) where
       let d : lookup_count b ≡ lookup_count b - 0 = omega arith in
       record { same = rw e (ap (λ m. look_from scope b objects links m 0 x₀) d); few = omega arith; bytes-kept = refl; words-kept = refl; out-kept = refl; work-kept = refl }
 
-  module _ {x₀ : Lent} {most n : ℕ} {x : Lent} (k : Looking x₀ most n x) (y : Lent) {t : Tried} (h : TriedBy objects links n x (trial scope b objects links n x) t y) where
-    pub look-ended : {a r : PromoteAnswer} → t ≡ Ended a → r ≡ answer_of t → standing r y ≡ promote_step scope b objects links x₀
+  -- the trial of n in x comes to r, and leaves y
+  abbrev Came : ℕ → Lent → Tried → Lent → Type 0
+  Came n x r y = TriedBy objects links n x (trial scope b objects links n x) r y
+
+  module _ {x₀ : Lent} {most n : ℕ} {x : Lent} (k : Looking x₀ most n x) (y : Lent) where
+    pub look-unread : (u : Unread) → Came n x (Err u) y → standing (Err u) y ≡ promote_step scope b objects links x₀
     unfolding TriedBy
-    look-ended {a} e q =
-        let f = rw e at h in
-        ap (λ z. standing z y) (q ∙ ap answer_of e) ∙ f.1 ∙ sym (k.same ∙ stops (most - n) n x f.0)
+    look-unread u h = h.1 ∙ sym (k.same ∙ stops (most - n) n x h.0)
 
-    module _ {why : Refusal} (e : t ≡ Unpacked why) {go : Bool} (g : go ≡ (eqb (number why) 11 && ltb n most)) where
-      unfolds : TriedBy objects links n x (trial scope b objects links n x) (Unpacked why) y
-      unfolds = rw e at h
+    pub look-packed : (p : Promoted) → Came n x (Ok (Ok p)) y → standing (Ok p) y ≡ promote_step scope b objects links x₀
+    unfolding TriedBy
+    look-packed p h = h.1 ∙ sym (k.same ∙ stops (most - n) n x h.0)
 
-      pub look-refused : go ≡ false → {told : Told} {s : Stores} → left told s.bytes s.words ≡ step_on (start objects links) y.stores
-          → promote_left (told_by_promote (Refused why)) s y.out y.work ≡ promote_step scope b objects links x₀
-      unfolding TriedBy
-      look-refused m {s = s} r =
-          let f = unfolds in
-          ap (λ (l : Left). promote_left (told_by_promote (Refused why)) l.stores y.out y.work) r ∙ f.2 ∙ sym (k.same ∙ over (eqb (number why) 11) refl (ltb n most) refl)
-        where
-          over : (u : Bool) → eqb (number why) 11 ≡ u → (v : Bool) → ltb n most ≡ v → look_from scope b objects links (most - n) n x ≡ ended objects links n x (trial scope b objects links n x)
-          over true i true j = absurd (true≢false (sym (g ∙ rw (i, j)) ∙ m))
-          over true i false j = last (most - n) n x (omega (arith, ltb-false n most j))
-          over false i v j = stops (most - n) n x (unfolds.0 ∙ i)
+    module _ (why : Refusal) (h : Came n x (Ok (Err why)) y) where
+      module _ {go : Bool} (g : go ≡ (eqb (number why) 11 && ltb n most)) where
+        pub look-refused : go ≡ false → {told : Told} {s : Stores} → left told s.bytes s.words ≡ step_on (start objects links) y.stores
+            → promote_left (told_by_promote (Err (Refused why))) s y.out y.work ≡ promote_step scope b objects links x₀
+        unfolding TriedBy
+        look-refused m r = ap (λ (l : Left). promote_left (told_by_promote (Err (Refused why))) l.stores y.out y.work) r ∙ h.2 ∙ sym (k.same ∙ over (eqb (number why) 11) refl (ltb n most) refl)
+          where
+            over : (u : Bool) → eqb (number why) 11 ≡ u → (v : Bool) → ltb n most ≡ v → look_from scope b objects links (most - n) n x ≡ ended objects links n x (trial scope b objects links n x)
+            over true i true j = absurd (true≢false (sym (g ∙ rw (i, j)) ∙ m))
+            over true i false j = last (most - n) n x (omega (arith, ltb-false n most j))
+            over false i v j = stops (most - n) n x (h.0 ∙ i)
 
-      pub look-on : go ≡ true → length y.stores.bytes ≡ length x.stores.bytes → length y.stores.words ≡ length x.stores.words → length y.out ≡ length x.out → length y.work ≡ length x.work
-          → Looking x₀ most (n + 1) y
-      unfolding TriedBy
-      look-on m p q u v =
-          let f = unfolds in
-          let both = sym g ∙ m in
-          let below : n < most = ltb-true n most (and_right (eqb (number why) 11) (ltb n most) both) in
-          let d : most - n ≡ suc (most - (n + 1)) = omega arith in
-          let o : overflows (trial scope b objects links n x) ≡ true = f.0 ∙ and_left (eqb (number why) 11) (ltb n most) both in
-          record {
-            same = k.same ∙ ap (λ z. look_from scope b objects links z n x) d ∙ next (most - (n + 1)) n x o ∙ ap (λ z. look_from scope b objects links (most - (n + 1)) (suc n) z) (sym f.1) ∙ ap (λ z. look_from scope b objects links (most - (n + 1)) z y) (sym (add-one n));
-            few = omega arith;
-            bytes-kept = p ∙ k.bytes-kept;
-            words-kept = q ∙ k.words-kept;
-            out-kept = u ∙ k.out-kept;
-            work-kept = v ∙ k.work-kept;
-          }
+        pub look-less : go ≡ true → n < most
+        look-less m = ltb-true n most (and_right (eqb (number why) 11) (ltb n most) (sym g ∙ m))
 
-      pub look-less : go ≡ true → n < most
-      look-less m = ltb-true n most (and_right (eqb (number why) 11) (ltb n most) (sym g ∙ m))
+        pub look-on : go ≡ true → length y.stores.bytes ≡ length x.stores.bytes → length y.stores.words ≡ length x.stores.words → length y.out ≡ length x.out → length y.work ≡ length x.work
+            → Looking x₀ most (n + 1) y
+        unfolding TriedBy
+        look-on m p q u v =
+            let below : n < most = look-less m in
+            let d : most - n ≡ suc (most - (n + 1)) = omega arith in
+            let o : overflows (trial scope b objects links n x) ≡ true = h.0 ∙ and_left (eqb (number why) 11) (ltb n most) (sym g ∙ m) in
+            record {
+              same = k.same ∙ ap (λ z. look_from scope b objects links z n x) d ∙ next (most - (n + 1)) n x o ∙ ap (λ z. look_from scope b objects links (most - (n + 1)) (suc n) z) (sym h.1) ∙ ap (λ z. look_from scope b objects links (most - (n + 1)) z y) (sym (add-one n));
+              few = omega arith;
+              bytes-kept = p ∙ k.bytes-kept;
+              words-kept = q ∙ k.words-kept;
+              out-kept = u ∙ k.out-kept;
+              work-kept = v ∙ k.work-kept;
+            }

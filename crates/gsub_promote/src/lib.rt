@@ -6,20 +6,32 @@
 mod answers;
 mod trial;
 
-ghost use Rattle.std.specs.Prelude.{◌≡◌};
+ghost use Rattle.std.specs.Prelude.{◌≡◌, ◌&&◌, eqb, ltb};
+ghost use Rattle.answer.specs.Number.{number};
 ghost use Rattle.steps.specs.Runs.{stores};
 ghost use Rattle.gsub.specs.declared.Scope.TheVariants.{Single, Whole};
 ghost use Rattle.gsub_promote.specs.Search.{lent, promote_left, promote_step};
 ghost use Rattle.gsub_promote.specs.Tried.{told_by_promote};
 
-pub use answers::PromoteAnswer;
-use answers::{answer_of, goes_on};
+use answer::Refusal;
+pub use answers::{PromoteAnswer, Promoted};
 use gsub::{Scope, word_at};
+use gsub_read::Unread;
 use session::start;
-use trial::{Tried, try_last};
+use trial::try_last;
 
 // Where the Header has the offset of its LookupList.
 const LOOKUP_LIST: usize = 8;
+
+// Whether a pack that was refused so is tried again, with one lookup more than n promoted: only 11, and while there is one.
+fn goes_on(why: Refusal, n: usize, most: usize) -> bool
+    ensures { result ≡ (eqb (number why) 11 && ltb n most) }
+{
+    let Refusal::Overflow(_) = why else {
+        return false;
+    };
+    n < most
+}
 
 // A promotion in a scope: the table is read with none, one, .. all of its last lookups promoted, each time into a session that is started anew, and packed
 // without copies, until a pack is not refused 11.
@@ -38,16 +50,14 @@ fn promote_in(
     let most = word_at(table, word_at(table, LOOKUP_LIST));
     let mut n = 0;
     loop {
-        let t = try_last(store, records, objects, links, table, scope, n, out, work);
-        let Tried::Unpacked(why) = t else {
-            return answer_of(t);
-        };
-        if goes_on(why, n, most) {
-            n += 1;
-            continue;
+        match try_last(store, records, objects, links, table, scope, n, out, work)? {
+            Ok(promoted) => return Ok(promoted),
+            Err(why) if goes_on(why, n, most) => n += 1,
+            Err(why) => {
+                let _ = start(store, records, objects, links);
+                return Err(Unread::Refused(why));
+            }
         }
-        start(store, records, objects, links);
-        return PromoteAnswer::Refused(why);
     }
 }
 

@@ -2,33 +2,19 @@
 ghost use Rattle.std.specs.Prelude.{◌≡◌};
 ghost use Rattle.steps.specs.Runs.{stores};
 ghost use Rattle.gsub_promote.specs.Search.{lent, trial};
-ghost use Rattle.gsub_promote.specs.Tried.{tried_of, TriedBy};
+ghost use Rattle.gsub_promote.specs.Tried.{TriedBy};
 
-use crate::answers::{PromoteAnswer, unread};
-use answer::{ObjectId, Packing, Refusal, Tally};
+use crate::answers::Promoted;
+use answer::Refusal;
 use gsub::{Mode, Scope};
-use gsub_read::{ReadAnswer, read_in};
+use gsub_read::{Unread, read_in};
 use pack::pack_sound;
 
 // No copies are made.
 const COPIES: u32 = 0;
 
-// The trial's answer, with the session as it is to stay; or why the pack was refused, which leaves the table in the session.
-#[derive(Clone, Copy)]
-pub enum Tried {
-    Ended(PromoteAnswer),
-    Unpacked(Refusal),
-}
-
-// What the pack came to, of the root that an accepted read told.
-fn packed(n: usize, id: ObjectId, t: Tally, p: Packing) -> Tried
-    ensures { result ≡ tried_of n id t p }
-{
-    match p {
-        Packing::Done(made, _) => Tried::Ended(PromoteAnswer::Done(n, id, made.length, t)),
-        Packing::Refused(why, _) => Tried::Unpacked(why),
-    }
-}
+// The read's refusal, with the session as it is to stay; or the pack's, which leaves the table in the session.
+pub type Tried = Result<Result<Promoted, Refusal>, Unread>;
 
 pub fn try_last(
     store: &mut [u8],
@@ -43,10 +29,14 @@ pub fn try_last(
 ) -> Tried
     ensures { TriedBy objects links n (lent (stores store.old records.old) out.old work.old) (trial scope table.now objects links n (lent (stores store.old records.old) out.old work.old)) result (lent (stores store.new records.new) out.new work.new) }
 {
-    let a = read_in(store, records, objects, links, table, scope, Mode::Last(n));
-    let ReadAnswer::Done(id, t) = a else {
-        return Tried::Ended(unread(a));
-    };
-    let p = pack_sound(store, records, id, COPIES, out, work);
-    packed(n, id, t, p)
+    let read = read_in(store, records, objects, links, table, scope, Mode::Last(n))?;
+    match pack_sound(store, records, read.root, COPIES, out, work) {
+        Ok(packed) => Ok(Ok(Promoted {
+            lookups: n,
+            root: read.root,
+            length: packed.table.length,
+            tally: read.tally,
+        })),
+        Err(refused) => Ok(Err(refused.why)),
+    }
 }

@@ -1,9 +1,9 @@
 -- The loop over a walk's moves: what is left, done to the stores as they are, is the whole. Before it the header's table is opened.
+use Rattle.std.specs.Prelude.{Ok, Err}
 use mathlib.Core.Path.{◌≡◌, refl, ap, ◌∙◌}
 use Prim.Native.Nat.{ℕ, ◌<◌}
 use mathlib.Core.List.{List, [], ◌∷◌}
 use mathlib.Core.Bool.{true}
-use native.Mathlib.Omega.{arith}
 use lib.ListN.{length}
 use Rattle.answer.specs.declared.ObjectId.{ObjectId}
 use Rattle.layout.specs.Sound.{sound}
@@ -22,11 +22,11 @@ use Rattle.gsub_walk.specs.declared.walk.Walk.{Walk}
 use Rattle.gsub_walk.specs.declared.walk.Move.{Move}
 use Rattle.gsub_walk.specs.Rest.{rest_of, Standing, MovesBy, begun_at}
 use Rattle.gsub_walk.proofs.Moving.{begun-rest}
-use Rattle.gsub_read.specs.declared.perform.Performed.{Performed}
-use Rattle.gsub_read.specs.declared.perform.Performed.TheVariants.{On}
+use Rattle.gsub_read.specs.declared.answers.Unread.{Unread}
+use Rattle.gsub_read.specs.Answers.{Performed}
 use Rattle.gsub_read.specs.Perform.{PerformedBy, ops_of, RanBy}
 use Rattle.gsub_read.specs.Read.{ops_step, read_step}
-use Rattle.gsub_read.proofs.Made.{goes_on, has_ended, all_made, refused-ends}
+use Rattle.gsub_read.proofs.Made.{goes_on, has_ended, all_made}
 
 pub record Walking (b store₀ records₀ : List ℕ) (walk₀ : Walk) (last₀ : ObjectId) (store records : List ℕ) (walk : Walk) (last : ObjectId) : Type 0 where
   pub same : perform by_stores (rest_of b walk₀) last₀.0 (stores store₀ records₀) ≡ perform by_stores (rest_of b walk) last.0 (stores store records)
@@ -39,37 +39,36 @@ pub none-walked : {b s r : List ℕ} {w : Walk} {i : ObjectId} → sound s r ≡
 none-walked h k = record { same = refl; stays = h; stands = k; bytes-kept = refl; words-kept = refl }
 
 module _ {b s₀ r₀ s r : List ℕ} {w₀ w : Walk} {i₀ i : ObjectId} (x : Walking b s₀ r₀ w₀ i₀ s r w i) where
-  module _ {s' r' : List ℕ} (m : Move) (next : Walk) (v : MovesBy b w m next) {q : Performed} (h : PerformedBy (ops_of b m) i.0 (stores s r) q (stores s' r')) where
-    pub walked_on : 0 < w.depth → (j : ObjectId) → q ≡ On j → length s' ≡ length s → length r' ≡ length r → Walking b s₀ r₀ w₀ i₀ s' r' next j
-    walked_on o j e l k =
-        let g = goes_on b w next i.0 (stores s r) j (stores s' r') x.stands o m v (rw e at h) in
-        record { same = x.same ∙ g.same; stays = h.stays; stands = g.stands; bytes-kept = l ∙ x.bytes-kept; words-kept = k ∙ x.words-kept }
+  module _ {s' r' : List ℕ} (m : Move) (next : Walk) (v : MovesBy b w m next) where
+    module _ (j : ObjectId) (h : PerformedBy (ops_of b m) i.0 (stores s r) (Ok j) (stores s' r')) (o : 0 < w.depth) where
+      pub walked_on : length s' ≡ length s → length r' ≡ length r → Walking b s₀ r₀ w₀ i₀ s' r' next j
+      walked_on l k =
+          let g = goes_on b w next i.0 (stores s r) j (stores s' r') x.stands o m v h in
+          record { same = x.same ∙ g.same; stays = h.stays; stands = g.stands; bytes-kept = l ∙ x.bytes-kept; words-kept = k ∙ x.words-kept }
 
-    pub walked-less : 0 < w.depth → (j : ObjectId) → q ≡ On j → length (rest_of b next) < length (rest_of b w)
-    walked-less o j e = (goes_on b w next i.0 (stores s r) j (stores s' r') x.stands o m v (rw e at h)).less
+      pub walked-less : length (rest_of b next) < length (rest_of b w)
+      walked-less = (goes_on b w next i.0 (stores s r) j (stores s' r') x.stands o m v h).less
 
-    pub walk_refused : ((j : ObjectId) → q ≡ On j → ⊥) → RanBy (rest_of b w₀) i₀.0 (stores s₀ r₀) q (stores s' r')
-    walk_refused n =
-        let e = has_ended b w next m i.0 (stores s r) q (stores s' r') v h n in
+    pub walk_refused : (u : Unread) → PerformedBy (ops_of b m) i.0 (stores s r) (Err u) (stores s' r') → RanBy (rest_of b w₀) i₀.0 (stores s₀ r₀) (Err u) (stores s' r')
+    walk_refused u h =
+        let e = has_ended b w next m i.0 (stores s r) u (stores s' r') v h in
         record { ran = x.same ∙ e.ran; stays = e.stays }
 
-  pub all-walked : w.depth ≡ 0 → RanBy (rest_of b w₀) i₀.0 (stores s₀ r₀) (On i) (stores s r)
+  pub all-walked : w.depth ≡ 0 → RanBy (rest_of b w₀) i₀.0 (stores s₀ r₀) (Ok i) (stores s r)
   all-walked z = let e = all_made b w i (stores s r) z x.stays in record { ran = x.same ∙ e.ran; stays = e.stays }
 
 -- ---- the header's table opened, and walked through
 
-module _ (scope : Scope) (b : List ℕ) (m : Mode) {s t : Stores} {q : Performed} (h : PerformedBy (begin ∷ []) 0 s q t) where
-  pub not-begun : ((j : ObjectId) → q ≡ On j → ⊥) → RanBy (mode_ops deepest b m (Header scope) 0) 0 s q t
-  not-begun n = record {
-    ran = ap (λ ops. perform by_stores ops 0 s) (begun-rest b m (Header scope) 0) ∙ h.made (rest_of b (begun_at m (Header scope) 0)) ∙ refused-ends q (rest_of b (begun_at m (Header scope) 0)) t n;
-    stays = h.stays;
-  }
+module _ (scope : Scope) (b : List ℕ) (m : Mode) where
+  begun-as : (s : Stores) → perform by_stores (mode_ops deepest b m (Header scope) 0) 0 s ≡ perform by_stores (begin ∷ rest_of b (begun_at m (Header scope) 0)) 0 s
+  begun-as s = ap (λ ops. perform by_stores ops 0 s) (begun-rest b m (Header scope) 0)
 
-  pub begun-ran : {j : ObjectId} {w : Walk} {r : Performed} {u : Stores} → q ≡ On j → w ≡ begun_at m (Header scope) 0 → RanBy (rest_of b w) j.0 t r u → RanBy (mode_ops deepest b m (Header scope) 0) 0 s r u
-  begun-ran {j} e f x = record {
-    ran = ap (λ ops. perform by_stores ops 0 s) (begun-rest b m (Header scope) 0) ∙ (rw e at (h.made (rest_of b (begun_at m (Header scope) 0)))) ∙ (rw f at x.ran);
-    stays = x.stays;
-  }
+  pub not-begun : {s t : Stores} (u : Unread) → PerformedBy (begin ∷ []) 0 s (Err u) t → RanBy (mode_ops deepest b m (Header scope) 0) 0 s (Err u) t
+  not-begun {s} u h = record { ran = begun-as s ∙ h.made (rest_of b (begun_at m (Header scope) 0)); stays = h.stays }
+
+  pub begun-ran : {s t : Stores} (j : ObjectId) → PerformedBy (begin ∷ []) 0 s (Ok j) t → {w : Walk} {r : Performed} {u : Stores} → w ≡ begun_at m (Header scope) 0 → RanBy (rest_of b w) j.0 t r u
+      → RanBy (mode_ops deepest b m (Header scope) 0) 0 s r u
+  begun-ran {s} j h f x = record { ran = begun-as s ∙ h.made (rest_of b (begun_at m (Header scope) 0)) ∙ (rw f at x.ran); stays = x.stays }
 
 -- ---- a read in the mode of a table as it stands
 

@@ -1,4 +1,5 @@
 -- A walk's moves are its ops.
+use Rattle.std.specs.Prelude.{Ok, Err}
 use mathlib.Core.Path.{◌≡◌, refl, sym, ap, subst, ◌∙◌}
 use Prim.Native.Nat.{ℕ, suc, ◌+◌, ◌-◌, ◌≤◌, ◌<◌}
 use mathlib.Core.List.{List, [], ◌∷◌, ◌++◌}
@@ -15,13 +16,13 @@ use Rattle.gsub.specs.Promote.{new_bytes}
 use Rattle.gsub_walk.specs.declared.walk.Walk.{Walk}
 use Rattle.gsub_walk.specs.declared.walk.Frame.{Frame}
 use Rattle.gsub_walk.specs.declared.walk.Move.{Move}
-use Rattle.gsub_walk.specs.declared.walk.Move.TheVariants as Move
 use Rattle.gsub_walk.specs.Rest.{bytes_of, place_of, fields_left, child_ops, link_ops, rest, rest_of, Standing, MovesBy}
 use Rattle.gsub_walk.proofs.Stacks.{standing-is}
 use Rattle.gsub_walk.proofs.Moving.{done-rest}
-use Rattle.gsub_read.specs.declared.perform.Performed.{Performed}
-use Rattle.gsub_read.specs.declared.perform.Performed.TheVariants.{On, Bad, Refused}
-use Rattle.gsub_read.specs.Perform.{outcome_of, continued, PerformedBy, ops_of, MoveOk, RanBy}
+use Rattle.gsub_read.specs.declared.answers.Unread.{Unread}
+use Rattle.gsub_read.specs.declared.answers.Unread.TheVariants.{BadTable}
+use Rattle.gsub_read.specs.Answers.{Performed}
+use Rattle.gsub_read.specs.Perform.{PerformedBy, ops_of, MoveOk, RanBy}
 
 -- ---- each move as it is made
 
@@ -30,11 +31,11 @@ module _ (b : List ℕ) {m : Move} where
   by_move {i = i} {s = s} {t = t} {r = r} e p = subst (λ x. PerformedBy (ops_of b x) i s r t) (sym e) p
 
   module _ (i : ObjectId) {s : Stores} (h : sound s.bytes s.words ≡ true) where
-    pub stop-performed : (p : ℕ) → m ≡ Move.Stop p → PerformedBy (ops_of b m) i.0 s (Bad p) s
+    pub stop-performed : (p : ℕ) → m ≡ Move.Stop p → PerformedBy (ops_of b m) i.0 s (Err (BadTable p)) s
     unfolding perform
     stop-performed p e = by_move e (record { made = λ ops. refl; stays = h })
 
-    pub done-performed : m ≡ Move.Done → PerformedBy (ops_of b m) i.0 s (On i) s
+    pub done-performed : m ≡ Move.Done → PerformedBy (ops_of b m) i.0 s (Ok i) s
     done-performed e = by_move e (record { made = λ ops. refl; stays = h })
 
   pub put-ok : (at width : ℕ) → m ≡ Move.Put at width → MoveOk b m → at + width ≤ length b
@@ -96,7 +97,7 @@ some-rest b w s o e = rest_some b (deepest - w.depth) w.back _ _ (rw (standing-i
 
 -- ---- the move came to r: the walk goes on, or has ended
 
-not_stopped : (b : List ℕ) (p i : ℕ) (s t : Stores) (j : ObjectId) → PerformedBy (ops_of b (Move.Stop p)) i s (On j) t → ⊥
+not_stopped : (b : List ℕ) (p i : ℕ) (s t : Stores) (j : ObjectId) → PerformedBy (ops_of b (Move.Stop p)) i s (Ok j) t → ⊥
 unfolding perform
 not_stopped b p i s t j h = omega (arith, ap (λ z. z.number) (h.made []))
 
@@ -106,14 +107,14 @@ pub record GoesOn (b : List ℕ) (w next : Walk) (i : ℕ) (s : Stores) (j : Obj
   pub less : length (rest_of b next) < length (rest_of b w)
 
 module _ (b : List ℕ) (w next : Walk) (i : ℕ) (s : Stores) (j : ObjectId) (t : Stores) where
-  one_less : (m : Move) (o : Op) → ops_of b m ≡ o ∷ [] → rest_of b w ≡ o ∷ rest_of b next → Standing next → PerformedBy (ops_of b m) i s (On j) t → GoesOn b w next i s j t
+  one_less : (m : Move) (o : Op) → ops_of b m ≡ o ∷ [] → rest_of b w ≡ o ∷ rest_of b next → Standing next → PerformedBy (ops_of b m) i s (Ok j) t → GoesOn b w next i s j t
   one_less m o f e k h = record {
     same = ap (λ z. perform by_stores z i s) (e ∙ ap (λ z. z ++ rest_of b next) (sym f)) ∙ h.made (rest_of b next);
     stands = k;
     less = omega (arith, ap length e);
   }
 
-  pub goes_on : Standing w → 0 < w.depth → (m : Move) → MovesBy b w m next → PerformedBy (ops_of b m) i s (On j) t → GoesOn b w next i s j t
+  pub goes_on : Standing w → 0 < w.depth → (m : Move) → MovesBy b w m next → PerformedBy (ops_of b m) i s (Ok j) t → GoesOn b w next i s j t
   unfolding MovesBy
   goes_on k o Move.Begin v h = one_less Move.Begin begin refl v.made v.stands h
   goes_on k o (Move.Put at width) v h = one_less (Move.Put at width) _ refl v.0.made v.0.stands h
@@ -124,18 +125,12 @@ module _ (b : List ℕ) (w next : Walk) (i : ℕ) (s : Stores) (j : ObjectId) (t
   goes_on k o Move.Done v h = absurd (some-rest b w k o v)
 
 -- a refusal ends it
-pub refused-ends : (r : Performed) (ops : List Op) (t : Stores) → ((j : ObjectId) → r ≡ On j → ⊥) → continued r ops t ≡ outcome_of r t
-refused-ends (On j) ops t n = absurd (n j refl)
-refused-ends (Bad p) ops t n = refl
-refused-ends (Refused why) ops t n = refl
-
-pub has_ended : (b : List ℕ) (w next : Walk) (m : Move) (i : ℕ) (s : Stores) (r : Performed) (t : Stores) → MovesBy b w m next → PerformedBy (ops_of b m) i s r t → ((j : ObjectId) → r ≡ On j → ⊥)
-    → RanBy (rest_of b w) i s r t
-has_ended b w next m i s r t v h n =
+pub has_ended : (b : List ℕ) (w next : Walk) (m : Move) (i : ℕ) (s : Stores) (u : Unread) (t : Stores) → MovesBy b w m next → PerformedBy (ops_of b m) i s (Err u) t → RanBy (rest_of b w) i s (Err u) t
+has_ended b w next m i s u t v h =
     let k = takes b w next m v in
-    record { ran = ap (λ z. perform by_stores z i s) k.first ∙ h.made k.later ∙ refused-ends r k.later t n; stays = h.stays }
+    record { ran = ap (λ z. perform by_stores z i s) k.first ∙ h.made k.later; stays = h.stays }
 
 -- nothing is left
-pub all_made : (b : List ℕ) (w : Walk) (j : ObjectId) (s : Stores) → w.depth ≡ 0 → sound s.bytes s.words ≡ true → RanBy (rest_of b w) j.0 s (On j) s
+pub all_made : (b : List ℕ) (w : Walk) (j : ObjectId) (s : Stores) → w.depth ≡ 0 → sound s.bytes s.words ≡ true → RanBy (rest_of b w) j.0 s (Ok j) s
 unfolding perform
 all_made b w j s e h = record { ran = ap (λ z. perform by_stores z j.0 s) (done-rest b w e); stays = h }

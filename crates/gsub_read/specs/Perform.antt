@@ -1,36 +1,24 @@
 -- docs/RULES.md, 11.3: what ops do to the session in the two stores, and what they come to.
-use Rattle.std.specs.Prelude.{◌≡◌, ℕ, ◌+◌, ◌≤◌, List, [], ◌∷◌, ◌++◌, true, length}
+use Rattle.std.specs.Prelude.{◌≡◌, ℕ, ◌+◌, ◌≤◌, List, [], ◌∷◌, ◌++◌, true, length, Ok, Err}
 use Rattle.lists.specs.Lists.{part}
-use Rattle.answer.specs.Number.{number}
-use Rattle.answer.specs.declared.ObjectId.{ObjectId}
-use Rattle.answer.specs.declared.Answer.{Answer}
-use Rattle.answer.specs.declared.Answer.TheVariants as Answer
 use Rattle.layout.specs.Sound.{sound}
 use Rattle.steps.specs.Runs.{Stores}
 use Rattle.steps.specs.Mirrored.{by_stores}
-use Rattle.gsub.specs.Ops.{bad_table, Op, begin, put, link, end, stop, Outcome, outcome, perform}
+use Rattle.gsub.specs.Ops.{Op, begin, put, link, end, stop, Outcome, outcome, perform}
 use Rattle.gsub.specs.Promote.{new_bytes}
 use Rattle.gsub_walk.specs.declared.walk.Move.{Move}
-use Rattle.gsub_walk.specs.declared.walk.Move.TheVariants as Move
 use Rattle.gsub_rows.specs.Fields.{most_width}
-use Rattle.gsub_read.specs.declared.perform.Performed.{Performed}
-use Rattle.gsub_read.specs.declared.perform.Performed.TheVariants.{On, Bad, Refused}
-
-abbrev pub after_of : Answer → ObjectId → Performed
-after_of (Answer.Done t) i = On i
-after_of (Answer.Refused why t) i = Refused why
+use Rattle.gsub_read.specs.Answers.{Performed, unread_number, unread_place}
 
 -- the number, the id and the place that it tells
 abbrev pub outcome_of : Performed → Stores → Outcome Stores
-outcome_of (On i) s = outcome 0 i.0 0 s
-outcome_of (Bad p) s = outcome bad_table 0 p s
-outcome_of (Refused why) s = outcome (number why) 0 0 s
+outcome_of (Ok i) s = outcome 0 i.0 0 s
+outcome_of (Err u) s = outcome (unread_number u) 0 (unread_place u) s
 
 -- with the ops that follow
 abbrev pub continued : Performed → List Op → Stores → Outcome Stores
-continued (On i) ops s = perform by_stores ops i.0 s
-continued (Bad p) ops s = outcome_of (Bad p) s
-continued (Refused why) ops s = outcome_of (Refused why) s
+continued (Ok i) ops s = perform by_stores ops i.0 s
+continued (Err u) ops s = outcome_of (Err u) s
 
 -- some ops, after a close that told i, come to r and leave t of s, whatever follows
 pub record PerformedBy (some : List Op) (i : ℕ) (s : Stores) (r : Performed) (t : Stores) : Type 0 where

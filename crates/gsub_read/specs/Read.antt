@@ -1,12 +1,10 @@
 -- docs/RULES.md, 11.1, 11.6 to 11.8 and 16.1: a read as a function of its arguments and the two stores: a start, the table's ops, and a start anew where one of them is refused.
 -- By the history alone: what it must tell, and the session calls that it stands for.
-use Rattle.std.specs.Prelude.{ℕ, List, [], ◌∷◌, Bool, ◌||◌, eqb}
+use Rattle.std.specs.Prelude.{ℕ, List, [], ◌∷◌, Bool, ◌||◌, eqb, Ok, Err}
 use Rattle.lists.specs.Lists.{pick}
 use Rattle.answer.specs.Number.{number, no_tally}
 use Rattle.answer.specs.declared.tally.Tally.{Tally}
 use Rattle.answer.specs.declared.Refusal.TheVariants as Refusal
-use Rattle.answer.specs.declared.Answer.{Answer}
-use Rattle.answer.specs.declared.Answer.TheVariants as Answer
 use Rattle.model.specs.Judge.{Limits, number_of, judge_start}
 use Rattle.model.specs.Session.{Needs}
 use Rattle.model.specs.History.{History, counts, begun}
@@ -16,13 +14,10 @@ use Rattle.steps.specs.Runs as calls
 use Rattle.steps.specs.Mirrored.{Step, by_stores, by_history}
 use Rattle.gsub.specs.declared.Scope.{Scope}
 use Rattle.gsub.specs.declared.Kind.TheVariants.{Header}
-use Rattle.gsub.specs.Ops.{bad_table, Op, begin, put, link, end, stop, Outcome, table_ops, perform}
+use Rattle.gsub.specs.Ops.{Op, begin, put, link, end, stop, Outcome, table_ops, perform}
 use Rattle.gsub.specs.Meaning.{deepest}
 use Rattle.gsub.specs.Refusals.{tellable}
-use Rattle.gsub_read.specs.declared.perform.Performed.{Performed}
-use Rattle.gsub_read.specs.declared.perform.Performed.TheVariants as Performed
-use Rattle.gsub_read.specs.declared.answers.ReadAnswer.{ReadAnswer}
-use Rattle.gsub_read.specs.declared.answers.ReadAnswer.TheVariants.{Done, BadTable, Refused}
+use Rattle.gsub_read.specs.Answers.{ReadAnswer, unread_number, unread_place}
 
 -- the number, the root's id, refusal 15's place and the tally
 pub record ReadTold : Type 0 where
@@ -39,9 +34,8 @@ abbrev pub done_read : ℕ → Tally → ReadTold
 done_read i t = record { number = 0; id = i; place = 0; tally = t }
 
 abbrev pub told_by_read : ReadAnswer → ReadTold
-told_by_read (Done i t) = done_read i.0 t
-told_by_read (BadTable p) = refused_read bad_table p
-told_by_read (Refused why) = refused_read (number why) 0
+told_by_read (Ok r) = done_read r.root.0 r.tally
+told_by_read (Err u) = refused_read (unread_number u) (unread_place u)
 
 -- what ops come to, given how what they leave is counted
 abbrev pub told_of : {S : Type 0} → (S → Tally) → Outcome S → ReadTold
@@ -78,17 +72,6 @@ ops_step ops objects links s = let l = step_on (start objects links) s in begun_
 
 abbrev pub read_step : Scope → List ℕ → ℕ → ℕ → Stores → ReadLeft
 read_step scope b = ops_step (gsub_ops scope b)
-
--- ---- a refusal handed on
-
-abbrev pub handed_of : Performed → ReadAnswer
-handed_of (Performed.On i) = Done i no_tally
-handed_of (Performed.Bad p) = BadTable p
-handed_of (Performed.Refused why) = Refused why
-
-abbrev pub started_of : Answer → ReadAnswer
-started_of (Answer.Done t) = Done (record { 0 = 0 }) t
-started_of (Answer.Refused why t) = Refused why
 
 -- ---- by the arguments and the two stores' lengths alone
 

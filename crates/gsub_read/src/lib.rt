@@ -17,11 +17,8 @@ ghost use Rattle.gsub.specs.Promote.{mode_ops};
 ghost use Rattle.gsub_rows.specs.Fields.{Fits};
 ghost use Rattle.gsub_read.specs.Read.{told_by_read, read_left, ops_step, read_step};
 
-use answer::Answer;
-pub use answers::{BAD_TABLE, ReadAnswer};
-use answers::{handed_on, not_started};
+pub use answers::{Read, ReadAnswer, Unread};
 use gsub::{Mode, Scope};
-use perform::Performed;
 use run::read_begun;
 use session::{start, tally_sound};
 
@@ -38,16 +35,17 @@ pub fn read_in(
     requires { Fits mode (Header scope) }
     ensures { read_left (told_by_read result) store.new records.new ≡ ops_step (mode_ops deepest table.now mode (Header scope) 0) objects links (stores store.old records.old) }
 {
-    let a = start(store, records, objects, links);
-    let Answer::Done(_) = a else {
-        return not_started(a);
-    };
-    let p = read_begun(store, records, table, scope, mode);
-    let Performed::On(id) = p else {
-        start(store, records, objects, links);
-        return handed_on(p);
-    };
-    ReadAnswer::Done(id, tally_sound(store, records))
+    start(store, records, objects, links)?;
+    match read_begun(store, records, table, scope, mode) {
+        Ok(root) => Ok(Read {
+            root,
+            tally: tally_sound(store, records),
+        }),
+        Err(why) => {
+            let _ = start(store, records, objects, links);
+            Err(why)
+        }
+    }
 }
 
 // The session is started with these limits, and the table read into it: of version 1.0, with single substitution alone. 13 as start tells it; 15 with the

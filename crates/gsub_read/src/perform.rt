@@ -5,37 +5,24 @@ ghost use Rattle.layout.specs.Sound.{sound};
 ghost use Rattle.steps.specs.Runs.{stores};
 ghost use Rattle.gsub.specs.Ops.{begin as beginOp, put as put_op, link as link_op, end as endOp};
 ghost use Rattle.gsub.specs.Promote.{new_bytes};
-ghost use Rattle.gsub_read.specs.Perform.{after_of, PerformedBy, ops_of, MoveOk};
+ghost use Rattle.gsub_read.specs.Perform.{PerformedBy, ops_of, MoveOk};
 
-use answer::{Answer, Closing, ObjectId, Refusal};
+use crate::answers::Unread;
+use answer::ObjectId;
 use gsub::NEW;
 use gsub_walk::walk::Move;
 use session::{close_sound, link_sound, open_sound, put_sound};
 
-// What moves came to: the id of the object closed last; refusal 15 with its place; a session refusal.
-#[derive(Clone, Copy)]
-pub enum Performed {
-    On(ObjectId),
-    Bad(usize),
-    Refused(Refusal),
-}
-
-// An accepted call closes nothing: the last id stands.
-fn after(a: Answer, last: ObjectId) -> Performed
-    ensures { result ≡ after_of a last }
-{
-    match a {
-        Answer::Done(_) => Performed::On(last),
-        Answer::Refused(why, _) => Performed::Refused(why),
-    }
-}
+// What moves came to: the id of the object closed last, or why they were refused. Only a close tells another id.
+pub type Performed = Result<ObjectId, Unread>;
 
 // An object opened.
 pub fn begin(store: &[u8], records: &mut [u32], last: ObjectId) -> Performed
     requires { sound store.now records.old ≡ true }
     ensures { PerformedBy (beginOp ∷ []) last.0 (stores store.now records.old) result (stores store.now records.new) }
 {
-    after(open_sound(store, records), last)
+    open_sound(store, records)?;
+    Ok(last)
 }
 
 // Bytes appended to it.
@@ -43,7 +30,8 @@ fn put(store: &mut [u8], records: &mut [u32], bytes: &[u8], last: ObjectId) -> P
     requires { sound store.old records.old ≡ true }
     ensures { PerformedBy (put_op bytes.now ∷ []) last.0 (stores store.old records.old) result (stores store.new records.new) }
 {
-    after(put_sound(store, records, bytes), last)
+    put_sound(store, records, bytes)?;
+    Ok(last)
 }
 
 // A link to the object closed last; a table's offsets count from its own first byte.
@@ -51,7 +39,8 @@ fn link(store: &[u8], records: &mut [u32], width: u32, last: ObjectId) -> Perfor
     requires { sound store.now records.old ≡ true }
     ensures { PerformedBy (link_op width ∷ []) last.0 (stores store.now records.old) result (stores store.now records.new) }
 {
-    after(link_sound(store, records, width, last, 0), last)
+    link_sound(store, records, width, last, 0)?;
+    Ok(last)
 }
 
 // The object closed: its id is the last one then.
@@ -59,11 +48,8 @@ fn end(store: &mut [u8], records: &mut [u32]) -> Performed
     requires { sound store.old records.old ≡ true }
     ensures { (i : ℕ) → PerformedBy (endOp ∷ []) i (stores store.old records.old) result (stores store.new records.new) }
 {
-    let a = close_sound(store, records);
-    match a {
-        Closing::Done(id, _) => Performed::On(id),
-        Closing::Refused(why, _) => Performed::Refused(why),
-    }
+    let closed = close_sound(store, records)?;
+    Ok(closed.id)
 }
 
 // Bytes that stand in no table.
@@ -102,7 +88,7 @@ pub fn perform(
         Move::New(at, width) => put_new(store, records, at, width, last),
         Move::Link(width) => link(store, records, width as u32, last),
         Move::End => end(store, records),
-        Move::Stop(p) => Performed::Bad(p),
-        Move::Done => Performed::On(last),
+        Move::Stop(p) => Err(Unread::BadTable(p)),
+        Move::Done => Ok(last),
     }
 }

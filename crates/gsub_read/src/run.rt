@@ -15,24 +15,22 @@ use gsub::{Kind, Mode, Scope};
 use gsub_walk::walk::{Walk, begun, step};
 
 // To the walk's end, or to the first refusal.
-fn run(store: &mut [u8], records: &mut [u32], table: &[u8], w: Walk, first: ObjectId) -> Performed
-    requires { (sound store.old records.old ≡ true) × Standing w }
-    ensures { RanBy (rest_of table.now w) first.0 (stores store.old records.old) result (stores store.new records.new) }
+fn run(
+    store: &mut [u8],
+    records: &mut [u32],
+    table: &[u8],
+    mut walk: Walk,
+    first: ObjectId,
+) -> Performed
+    requires { (sound store.old records.old ≡ true) × Standing walk }
+    ensures { RanBy (rest_of table.now walk) first.0 (stores store.old records.old) result (stores store.new records.new) }
 {
-    let mut walk = w;
     let mut last = first;
     while 0 < walk.depth {
-        let moved = step(table, walk);
-        let m = moved.made;
-        let p = perform(store, records, table, m, last);
-        let Performed::On(id) = p else {
-            return p;
-        };
-        last = id;
-        let next = moved.walk;
-        walk = next;
+        let m = step(table, &mut walk);
+        last = perform(store, records, table, m, last)?;
     }
-    Performed::On(last)
+    Ok(last)
 }
 
 // The whole table in a mode, into a session that is begun.
@@ -46,10 +44,7 @@ pub fn read_begun(
     requires { (sound store.old records.old ≡ true) × Fits mode (Header scope) }
     ensures { RanBy (mode_ops deepest table.now mode (Header scope) 0) 0 (stores store.old records.old) result (stores store.new records.new) }
 {
-    let p = begin(store, records, ObjectId(0));
-    let Performed::On(id) = p else {
-        return p;
-    };
+    let id = begin(store, records, ObjectId(0))?;
     let w = begun(mode, Kind::Header(scope), 0);
     run(store, records, table, w, id)
 }

@@ -9,8 +9,7 @@ use lib.ListN.{length, get_or, length-append, get_or-append}
 use lib.Seq.{get_or-append-add}
 use Rattle.gsub.specs.declared.Field.{Field}
 use Rattle.gsub.specs.Tables.{uint16, times}
-use Rattle.gsub_rows.specs.declared.fields.Next.{Next}
-use Rattle.gsub_rows.specs.declared.fields.Next.TheVariants.{Some, None}
+use Rattle.std.specs.Prelude.{Option, Some, None}
 use Rattle.gsub_rows.specs.Fields.{Narrow, Found}
 
 length-times : (n : ℕ) (r : List Field) → length (times n r) ≡ n * length r
@@ -44,7 +43,7 @@ module _ (n : ℕ) (r later : List Field) (i : ℕ) where
       )
 
   -- behind it
-  pub found-later : n * length r ≤ i → (x : Next) → Found later (i - n * length r) x → Found (times n r ++ later) i x
+  pub found-later : n * length r ≤ i → (x : Option Field) → Found later (i - n * length r) x → Found (times n r ++ later) i x
   unfolding Found
   found-later h (Some f) k =
       let l = length-times n r in

@@ -1,7 +1,5 @@
-pub mod Bands
-pub mod Shaped
-pub mod Times
-pub mod Runs
+pub mod Numbered
+pub mod Right
 pub mod Laid
 pub mod Looks
 pub mod Modes

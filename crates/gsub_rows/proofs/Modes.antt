@@ -1,27 +1,22 @@
 -- Which fields a table has in each mode, by each way through the code.
-use mathlib.Core.Path.{◌≡◌, ◌∙◌}
-use Prim.Native.Nat.{ℕ, ◌+◌, ◌*◌, ◌≤◌, ◌<◌}
+use mathlib.Core.Path.{◌≡◌}
+use Prim.Native.Nat.{ℕ, ◌+◌}
 use mathlib.Core.List.{List, [], ◌∷◌}
 use mathlib.Core.Bool.{Bool, true, false}
-use native.Mathlib.Decide.{dec_le}
 use native.Mathlib.Nat.{add-zero}
 use native.Mathlib.Omega.{arith}
 use lib.Dec.{eqb}
-use lib.ListN.{length, get_or, set, length-set, get_or-eq_default}
-use lib.Seq.{get_or-set_same, get_or-set_other}
 use Rattle.lists.specs.Lists.{pick}
-use Rattle.big_endian.specs.BigEndian.{capacity}
 use Rattle.gsub.specs.declared.Scope.{Scope}
 use Rattle.gsub.specs.declared.Scope.TheVariants.{Single, Whole}
 use Rattle.gsub.specs.declared.Kind.{Kind}
 use Rattle.gsub.specs.declared.Kind.TheVariants.{Lookup}
-use Rattle.gsub.specs.declared.Mode.{Mode}
-use Rattle.gsub.specs.declared.Mode.TheVariants.{Plain, Last, Promoted, New}
 use Rattle.gsub.specs.Tables.{Shape, lookup_of, word_at, by_number, formats, shape, fields_of, fields_at, laid, often, times, size}
-use Rattle.gsub.specs.Promote.{new_bytes, extension_size, bytes_in, place_in}
-use Rattle.gsub.proofs.Changed.{changed, same_length, same_word}
-use Rattle.gsub_rows.specs.declared.fields.Next.{Next}
-use Rattle.gsub_rows.specs.Fields.{Found, IsLookup, Fits}
+use Rattle.gsub.proofs.Changed.{changed, same_word}
+use Rattle.gsub_rows.specs.declared.runs.Run.{Run}
+use Rattle.std.specs.Prelude.{Option}
+use Rattle.gsub.specs.declared.Field.{Field}
+use Rattle.gsub_rows.specs.Fields.{Found, IsLookup}
 use Rattle.gsub_rows.specs.Rows.{shape_of, RowOf}
 
 -- ---- what holds of all of a table's shapes holds of the one that is chosen
@@ -42,19 +37,6 @@ chosen-one P n i s (t ∷ ss) h hs = go (eqb n i) (chosen-one P n (i + 1) t ss h
 -- ---- a promoted Lookup
 
 module _ (b : List ℕ) (p : ℕ) where
-  high_byte : get_or (changed b p) p 0 ≡ 0
-  high_byte = get_or-set_other (set b p 0) (p + 1) p 7 0 (λ e. omega arith) ∙ go (dec_le (length b) p)
-    where
-      go : Dec (length b ≤ p) → get_or (set b p 0) p 0 ≡ 0
-      go (yes l) = get_or-eq_default (set b p 0) 0 {n = p} (omega (arith, length-set b p 0))
-      go (no l) = get_or-set_same b p 0 0 (omega arith)
-
-  pub type-here : p + 2 ≤ length b → 7 ≡ word_at (changed b p) p
-  type-here h = omega (arith, high_byte, get_or-set_same (set b p 0) (p + 1) 7 0 (omega (arith, length-set b p 0)))
-
-  pub type-past : length b < p + 2 → 0 ≡ word_at (changed b p) p
-  type-past h = omega (arith, high_byte, get_or-eq_default (changed b p) 0 {n = p + 1} (omega (arith, same_length b p)))
-
   -- its fields hang on no byte of its type but by its shape
   abbrev Alike : Shape → Type 0
   Alike s = laid (λ i. word_at b (p + i)) 0 s ≡ laid (λ i. word_at (changed b p) (p + i)) 0 s
@@ -69,35 +51,9 @@ module _ (b : List ℕ) (p : ℕ) where
   alike Whole first second =
       chosen-one Alike first 1 _ _ (alike_of 1 _) (alike_of 2 _, (alike_of 3 _, (alike_of 4 _, (alike_of 5 _, (alike_of 6 _, (alike_of 7 _, (alike_of 8 _, tt)))))))
 
-  pub found-promoted : {kind : Kind} (index : ℕ) (x : Next) {first second : ℕ} {row : List (List ℕ)} → IsLookup kind → first ≡ word_at (changed b p) p → second ≡ word_at b (p + 2) → RowOf kind first second row
+  pub found-promoted : {kind : Kind} (index : ℕ) (x : Option Field) {first second : ℕ} {row : List Run} → IsLookup kind → first ≡ word_at (changed b p) p → second ≡ word_at b (p + 2) → RowOf kind first second row
       → Found (laid (λ i. word_at b (p + i)) 0 (shape_of row)) index x → Found (fields_at (changed b p) kind p) index x
   unfolding fields_of
   found-promoted index x {first} {second} k e s r h =
       let g = rw (r.same, k.same, alike k.scope first second) at h in
       rw (k.same, add-zero p, ← e, same_word b p (p + 2) (omega arith), ← s) g
-
--- ---- by the mode
-
-pub fits-lookup : {mode : Mode} {kind : Kind} → mode ≡ Promoted → Fits mode kind → IsLookup kind
-unfolding Fits
-fits-lookup e t = rw e at t
-
-pub fits-type : {mode : Mode} (kind : Kind) {type : ℕ} → mode ≡ New type → Fits mode kind → type < capacity 2
-unfolding Fits
-fits-type kind e t = rw e at t
-
-abbrev FoundIn : List ℕ → Mode → Kind → ℕ → ℕ → Next → Type 0
-FoundIn b mode kind p index x = Found (fields_at (bytes_in b mode p) kind (place_in mode p)) index x
-
-module _ (b : List ℕ) {mode : Mode} (kind : Kind) (p index : ℕ) (x : Next) where
-  pub found_plain : mode ≡ Plain → Found (fields_at b kind p) index x → FoundIn b mode kind p index x
-  found_plain e h = rw e h
-
-  pub found-last : {n : ℕ} → mode ≡ Last n → Found (fields_at b kind p) index x → FoundIn b mode kind p index x
-  found-last e h = rw e h
-
-  pub found-changed : mode ≡ Promoted → Found (fields_at (changed b p) kind p) index x → FoundIn b mode kind p index x
-  found-changed e h = rw e h
-
-  pub found-new : {type : ℕ} → mode ≡ New type → Found (fields_at new_bytes kind (extension_size * type)) index x → FoundIn b mode kind p index x
-  found-new e h = rw e h

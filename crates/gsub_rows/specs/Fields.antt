@@ -1,15 +1,12 @@
 -- The field of a number in a table, how far a table's place may lie, and which tables a mode is for.
-use Rattle.std.specs.Prelude.{◌≡◌, ℕ, ◌+◌, ◌≤◌, ◌<◌, ◌^◌, List, length, get_or}
+use Rattle.std.specs.Prelude.{◌≡◌, ℕ, ◌+◌, ◌≤◌, ◌<◌, ◌^◌, List, length, get_or, Option, Some, None}
 use Rattle.big_endian.specs.BigEndian.{capacity}
 use Rattle.gsub.specs.declared.Scope.{Scope}
 use Rattle.gsub.specs.declared.Kind.{Kind}
 use Rattle.gsub.specs.declared.Kind.TheVariants.{Lookup}
 use Rattle.gsub.specs.declared.Mode.{Mode}
-use Rattle.gsub.specs.declared.Mode.TheVariants as Mode
 use Rattle.gsub.specs.declared.Field.{Field}
 use Rattle.gsub.specs.Tables.{uint16}
-use Rattle.gsub_rows.specs.declared.fields.Next.{Next}
-use Rattle.gsub_rows.specs.declared.fields.Next.TheVariants.{Some, None}
 
 -- a slice ends below 2 ^ 63, and an offset of four bytes leads no further than this
 abbrev pub farthest : ℕ
@@ -23,7 +20,7 @@ pub record Narrow (f : Field) : Type 0 where
   pub most : f.width ≤ most_width
 
 -- the field of number i of a list, or that there is none
-unfoldable pub Found : List Field → ℕ → Next → Type 0
+unfoldable pub Found : List Field → ℕ → Option Field → Type 0
 Found fs i (Some f) = (i < length fs) × (get_or fs i uint16 ≡ f) × Narrow f
 Found fs i None = length fs ≤ i
 

@@ -1,38 +1,35 @@
--- What the rows of numbers stand for: the tables.
-use Rattle.std.specs.Prelude.{◌≡◌, ℕ, ◌+◌, ◌*◌, List, [], ◌∷◌, map, Bool, true, ◌&&◌, length, get_or, take, drop, replicate, eqb, leb}
-use Rattle.lists.specs.Lists.{pick}
+-- What the rows of the code stand for: the tables.
+use Rattle.std.specs.Prelude.{◌≡◌, ℕ, ◌*◌, ◌<◌, ◌≤◌, List, [], ◌∷◌, map, Bool, true, ◌&&◌, length, eqb, leb}
+use Rattle.std.specs.Borrow.{Bor}
 use Rattle.gsub.specs.declared.Kind.{Kind}
 use Rattle.gsub.specs.declared.Field.{Field}
-use Rattle.gsub.specs.Tables.{Run, Shape, size, shape}
+use Rattle.gsub.specs.Tables.{once, count, before, marked, Shape, size, only, by_first, by_second, by_number, formats, shape}
+use Rattle.gsub.specs.Tables as tables
+use Rattle.gsub_rows.specs.declared.runs.Times.{Times}
+use Rattle.gsub_rows.specs.declared.runs.Times.TheVariants.{Once, Count, Before, Marked}
+use Rattle.gsub_rows.specs.declared.runs.Run.{Run}
+use Rattle.gsub_rows.specs.declared.runs.Formats.{Formats}
+use Rattle.gsub_rows.specs.declared.runs.Formats.TheVariants.{Only, ByFirst, BySecond}
 use Rattle.gsub_rows.specs.Fields.{most_width}
-use Rattle.gsub_rows.specs.Numbers.{times_of, field_of}
 
--- ---- a run: how often its fields stand there, how many, of how many bytes; which
+-- ---- a run, a row, rows
 
-abbrev pub times_in : List ℕ → ℕ
-times_in r = get_or r 0 0
+abbrev pub as_times : Times → tables.Times
+as_times Once = once
+as_times (Count from fewer) = count from fewer
+as_times (Before fewer) = before fewer
+as_times Marked = marked
 
-abbrev pub number_in : List ℕ → ℕ
-number_in r = get_or r 1 0
+abbrev pub run_of : Run → tables.Run
+run_of r = record { by = as_times r.by; each = r.each.now }
 
-abbrev pub size_in : List ℕ → ℕ
-size_in r = get_or r 2 0
+abbrev pub shape_of : List Run → Shape
+shape_of row = map run_of row
 
-abbrev pub fields_in : List ℕ → List Field
-fields_in r = map field_of (take (number_in r) (drop 3 r))
+abbrev pub shapes_of : List (Bor (List Run)) → List Shape
+shapes_of rows = map (λ r. shape_of r.now) rows
 
-unfoldable pub run_of : List ℕ → Run
-run_of r = record { by = times_of (times_in r); each = fields_in r }
-
--- ---- a row: its runs, up to one of no fields
-
-unfoldable pub shape_of : List (List ℕ) → Shape
-shape_of [] = []
-shape_of (r ∷ rs) = pick (eqb (number_in r) 0) [] (run_of r ∷ shape_of rs)
-
--- NO_RUN
-abbrev pub no_run : List ℕ
-no_run = 0 ∷ 0 ∷ 0 ∷ replicate 6 16
+-- ---- rows that fit the code's numbers
 
 abbrev pub most_fields : ℕ
 most_fields = 6
@@ -43,22 +40,42 @@ most_runs = 8
 abbrev pub most_size : ℕ
 most_size = most_fields * most_width
 
--- a run's fields stand in it, and their size is its own
-unfoldable pub right_run : List ℕ → Bool
-right_run r = eqb (length r) (3 + most_fields) && (leb (number_in r) most_fields && (eqb (size (fields_in r)) (size_in r) && leb (size_in r) most_size))
+abbrev pub narrow : List Field → Bool
+narrow [] = true
+narrow (f ∷ fs) = (leb 2 f.width && leb f.width most_width) && narrow fs
 
-unfoldable pub right_runs : List (List ℕ) → Bool
+-- a run's fields are few, and their size is its own
+abbrev pub right_run : Run → Bool
+right_run r = leb (length r.each.now) most_fields && (narrow r.each.now && (eqb (size r.each.now) r.size && leb r.size most_size))
+
+abbrev pub right_runs : List Run → Bool
 right_runs [] = true
 right_runs (r ∷ rs) = right_run r && right_runs rs
 
-pub record RightRow (row : List (List ℕ)) : Type 0 where
-  pub runs : length row ≡ most_runs
+abbrev pub right_rows : List (Bor (List Run)) → Bool
+right_rows [] = true
+right_rows (r ∷ rs) = (leb (length r.now) most_runs && right_runs r.now) && right_rows rs
+
+pub record RightRow (row : List Run) : Type 0 where
+  pub runs : length row ≤ most_runs
   pub right : right_runs row ≡ true
 
-pub record HasShape (s : Shape) (row : List (List ℕ)) : Type 0 where
+pub record RightRows (rows : List (Bor (List Run))) : Type 0 where
+  pub some : 0 < length rows
+  pub right : right_rows rows ≡ true
+
+-- ---- which rows are whose
+
+pub record HasShape (s : Shape) (row : List Run) : Type 0 where
   pub same : shape_of row ≡ s
   pub fits : RightRow row
 
 -- the row of a table of kind k whose first two numbers are these
-abbrev pub RowOf : Kind → ℕ → ℕ → List (List ℕ) → Type 0
+abbrev pub RowOf : Kind → ℕ → ℕ → List Run → Type 0
 RowOf k first second row = HasShape (shape k first second) row
+
+-- the rows of the tables of kind k, in the order of its formats
+abbrev pub RowsOf : Kind → Formats → Type 0
+RowsOf k (Only row) = (only (shape_of row.now) ≡ formats k) × RightRow row.now
+RowsOf k (ByFirst rows) = (by_first (shapes_of rows.now) ≡ formats k) × RightRows rows.now
+RowsOf k (BySecond from rows) = (by_second from (shapes_of rows.now) ≡ formats k) × RightRows rows.now

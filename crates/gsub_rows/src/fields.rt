@@ -1,15 +1,14 @@
 // The fields of a table, by the numbers in it.
-ghost use Rattle.std.specs.Prelude.{◌≡◌, ◌+◌, ◌-◌, ◌<◌, ◌≤◌, ◌^◌};
+ghost use Rattle.std.specs.Prelude.{◌≡◌, ◌+◌, ◌<◌, ◌≤◌, ◌^◌};
 ghost use Rattle.big_endian.specs.BigEndian.{capacity};
 ghost use Rattle.gsub.specs.Tables.{word_at, fields_at, often as oftenOf, laid};
 ghost use Rattle.gsub.specs.declared.Mode.TheVariants.{Promoted};
 ghost use Rattle.gsub.specs.Promote.{bytes_in, place_in};
 ghost use Rattle.gsub_rows.specs.Fields.{Found, IsLookup, Fits, farthest};
-ghost use Rattle.gsub_rows.specs.Numbers.{as_times};
-ghost use Rattle.gsub_rows.specs.Rows.{shape_of, RightRow};
+ghost use Rattle.gsub_rows.specs.Rows.{as_times, shape_of, RightRow};
 
-use crate::numbers::{FIELDS, FIRST, MOST_RUNS, Row, SIZE, TIMES, Times, field_of, times_of, wide};
 use crate::rows::row_of;
+use crate::runs::{Run, Times};
 use gsub::{EXTENSION_SIZE, Field, Kind, Mode, NEW, word_at};
 
 // The bytes of a count.
@@ -26,62 +25,47 @@ const USE_MARK_FILTERING_SET: usize = 16;
 // The lookupType of a promoted Lookup.
 const EXTENSION_TYPE: usize = 7;
 
-#[derive(Clone, Copy)]
-pub enum Next {
-    Some(Field),
-    None,
-}
-
-// a less b, zero where b is more.
-pub fn less(a: usize, b: usize) -> usize
-    ensures { result ≡ a - b }
-{
-    if a < b {
-        return 0;
-    }
-    a - b
-}
-
 // How often the fields of a run stand at `at` of the table at `place`.
+#[tactic(auto, unfolding(gsub::specs::Tables::often))]
 fn often(table: &[u8], place: usize, at: usize, by: Times) -> usize
     requires { (place ≤ farthest) × (at ≤ 2 ^ 32) }
     ensures { (result ≡ oftenOf (λ i. word_at table.now (place + i)) at (as_times by)) × (result < capacity 2) }
 {
     match by {
         Times::Once => 1,
-        Times::Count(from, fewer) => less(word_at(table, place + wide(from)), wide(fewer)),
-        Times::Before(fewer) => less(word_at(table, place + less(at, COUNT)), wide(fewer)),
+        Times::Count(from, fewer) => {
+            let count = word_at(table, place + usize::from(from));
+            count.saturating_sub(usize::from(fewer))
+        }
+        Times::Before(fewer) => {
+            let count = word_at(table, place + at.saturating_sub(COUNT));
+            count.saturating_sub(usize::from(fewer))
+        }
         Times::Marked => word_at(table, place + LOOKUP_FLAG) / USE_MARK_FILTERING_SET % 2,
     }
 }
 
-// The field of number `index` of the runs of a row, which begin the table at `place`; a run of no fields ends the row.
-fn in_runs(table: &[u8], place: usize, row: Row, index: usize) -> Next
-    requires { (place ≤ farthest) × RightRow row }
-    ensures { Found (laid (λ i. word_at table.now (place + i)) 0 (shape_of row)) index result }
+// The field of number `index` of the runs of a row, which begin the table at `place`.
+fn in_runs(table: &[u8], place: usize, row: &[Run], index: usize) -> Option<Field>
+    requires { (place ≤ farthest) × RightRow row.now }
+    ensures { Found (laid (λ i. word_at table.now (place + i)) 0 (shape_of row.now)) index result }
 {
-    let mut run = 0;
     let mut at = 0;
     let mut left = index;
-    while run < MOST_RUNS {
-        let r = row[run];
-        let fields = wide(r[FIELDS]);
-        if fields == 0 {
-            return Next::None;
+    for run in row {
+        let n = often(table, place, at, run.by);
+        let fields = n * run.each.len();
+        if left < fields {
+            return Some(run.each[left % run.each.len()]);
         }
-        let n = often(table, place, at, times_of(r[TIMES]));
-        if left < n * fields {
-            return Next::Some(field_of(r[FIRST + left % fields]));
-        }
-        left -= n * fields;
-        at += n * wide(r[SIZE]);
-        run += 1;
+        left -= fields;
+        at += n * run.size;
     }
-    Next::None
+    None
 }
 
 // The field of number `index` of the table of this kind at `place`.
-fn next_field(table: &[u8], kind: Kind, place: usize, index: usize) -> Next
+fn next_field(table: &[u8], kind: Kind, place: usize, index: usize) -> Option<Field>
     requires { place ≤ farthest }
     ensures { Found (fields_at table.now kind place) index result }
 {
@@ -101,7 +85,7 @@ fn promoted_type(table: &[u8], place: usize) -> usize
 }
 
 // Of a promoted Lookup.
-fn next_promoted(table: &[u8], kind: Kind, place: usize, index: usize) -> Next
+fn next_promoted(table: &[u8], kind: Kind, place: usize, index: usize) -> Option<Field>
     requires { (place ≤ farthest) × IsLookup kind }
     ensures { Found (fields_at (bytes_in table.now Promoted place) kind place) index result }
 {
@@ -114,13 +98,13 @@ fn next_promoted(table: &[u8], kind: Kind, place: usize, index: usize) -> Next
 }
 
 // Of the table as it is read in this mode.
-pub fn next_in(table: &[u8], mode: Mode, kind: Kind, place: usize, index: usize) -> Next
+#[tactic(auto, unfolding(crate::specs::Fields::Fits))]
+pub fn next_in(table: &[u8], mode: Mode, kind: Kind, place: usize, index: usize) -> Option<Field>
     requires { (place ≤ farthest) × Fits mode kind }
     ensures { Found (fields_at (bytes_in table.now mode place) kind (place_in mode place)) index result }
 {
     match mode {
-        Mode::Plain => next_field(table, kind, place, index),
-        Mode::Last(_) => next_field(table, kind, place, index),
+        Mode::Plain | Mode::Last(_) => next_field(table, kind, place, index),
         Mode::Promoted => next_promoted(table, kind, place, index),
         Mode::New(number) => next_field(&NEW, kind, EXTENSION_SIZE * number, index),
     }

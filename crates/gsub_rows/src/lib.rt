@@ -1,4 +1,4 @@
-// The tables as rows of numbers, and the field of a number in a table.
+// The tables as rows of fields, and the field of a number in a table.
 #![tactic(auto)]
 
 mod common;
@@ -6,7 +6,6 @@ mod contexts;
 mod features;
 pub mod fields;
 mod lookups;
-pub mod numbers;
-mod padding;
 pub mod rows;
+pub mod runs;
 mod substitutions;

@@ -1,84 +1,47 @@
 // Rows of the subtables of lookup types 1 to 4 and 8, and of what hangs on them.
-ghost use Rattle.std.specs.Prelude.{◌<◌};
-ghost use Rattle.gsub.specs.declared.Kind.TheVariants.{SingleSubst};
-ghost use Rattle.gsub.specs.Tables.{covered_list};
-ghost use Rattle.gsub_rows.specs.Numbers.{band, kind_of};
-ghost use Rattle.gsub_rows.specs.Rows.{HasShape, RowOf};
+use crate::common::set_of;
+use crate::runs::{FEWER, Row, UINT16, is, many, offset16, one, run};
+use gsub::Kind;
 
-use crate::numbers::{
-    COVERAGE, FEWER, FORMAT_1, IS_1, IS_2, MANY, NO_RUN, NONE, ONE, Row, Run, TO, UINT16,
-};
-use crate::padding::{one_run, two_runs};
+// substFormat, coverageOffset, deltaGlyphID
+pub const SINGLE_SUBST_1: Row = &[one!(is!(1), offset16!(Kind::Coverage), UINT16)];
 
-const SINGLE_SUBST_1_ROW: [Run; 1] = [
-    // substFormat, coverageOffset, deltaGlyphID
-    [ONE, 3, 6, IS_1, TO + COVERAGE, UINT16, NONE, NONE, NONE],
+// substFormat, coverageOffset, glyphCount; substituteGlyphIDs
+pub const SINGLE_SUBST_2: Row = &[
+    one!(is!(2), offset16!(Kind::Coverage), UINT16),
+    many!(UINT16),
 ];
 
-const SINGLE_SUBST_2_ROW: [Run; 2] = [
-    // substFormat, coverageOffset, glyphCount
-    [ONE, 3, 6, IS_2, TO + COVERAGE, UINT16, NONE, NONE, NONE],
-    // substituteGlyphIDs
-    [MANY, 1, 2, UINT16, NONE, NONE, NONE, NONE, NONE],
-];
-
-// Of a Sequence or an AlternateSet.
-pub const GLYPH_LIST_ROW: [Run; 2] = [
-    // glyphCount
-    [ONE, 1, 2, UINT16, NONE, NONE, NONE, NONE, NONE],
-    // substituteGlyphIDs or alternateGlyphIDs
-    [MANY, 1, 2, UINT16, NONE, NONE, NONE, NONE, NONE],
-];
-
-pub const LIGATURE_ROW: [Run; 2] = [
-    // ligatureGlyph, componentCount
-    [ONE, 2, 4, UINT16, UINT16, NONE, NONE, NONE, NONE],
-    // componentGlyphIDs
-    [FEWER, 1, 2, UINT16, NONE, NONE, NONE, NONE, NONE],
-];
-
-pub const REVERSE_CHAIN_SINGLE_SUBST_ROW: Row = [
-    // substFormat, coverageOffset, backtrackGlyphCount
-    [ONE, 3, 6, IS_1, TO + COVERAGE, UINT16, NONE, NONE, NONE],
-    // backtrackCoverageOffsets
-    [MANY, 1, 2, TO + COVERAGE, NONE, NONE, NONE, NONE, NONE],
-    // lookaheadGlyphCount
-    [ONE, 1, 2, UINT16, NONE, NONE, NONE, NONE, NONE],
-    // lookaheadCoverageOffsets
-    [MANY, 1, 2, TO + COVERAGE, NONE, NONE, NONE, NONE, NONE],
-    // glyphCount
-    [ONE, 1, 2, UINT16, NONE, NONE, NONE, NONE, NONE],
-    // substituteGlyphIDs
-    [MANY, 1, 2, UINT16, NONE, NONE, NONE, NONE, NONE],
-    NO_RUN,
-    NO_RUN,
-];
-
-pub fn single_subst_row(format: usize) -> Row
-    ensures { RowOf SingleSubst format 0 result }
-{
-    if format == FORMAT_1 {
-        return one_run(SINGLE_SUBST_1_ROW);
-    }
-    two_runs(SINGLE_SUBST_2_ROW)
+// substFormat, coverageOffset, the count of tables of this kind; their offsets
+macro_rules! covered_list {
+    ($kind:expr) => {
+        &[
+            one!(is!(1), offset16!(Kind::Coverage), UINT16),
+            many!(offset16!($kind)),
+        ]
+    };
 }
 
-// A MultipleSubst, an AlternateSubst or a LigatureSubst, whose offsets are to tables of this number.
-pub fn covered_list(kind: u8) -> Row
-    requires { kind < band }
-    ensures { HasShape (covered_list (kind_of kind)) result }
-{
-    let to = TO + kind;
-    [
-        // substFormat, coverageOffset, their count
-        [ONE, 3, 6, IS_1, TO + COVERAGE, UINT16, NONE, NONE, NONE],
-        // their offsets
-        [MANY, 1, 2, to, NONE, NONE, NONE, NONE, NONE],
-        NO_RUN,
-        NO_RUN,
-        NO_RUN,
-        NO_RUN,
-        NO_RUN,
-        NO_RUN,
-    ]
-}
+pub const MULTIPLE_SUBST: Row = covered_list!(Kind::Sequence);
+
+pub const ALTERNATE_SUBST: Row = covered_list!(Kind::AlternateSet);
+
+pub const LIGATURE_SUBST: Row = covered_list!(Kind::LigatureSet);
+
+// Of a Sequence or an AlternateSet: glyphCount; substituteGlyphIDs or alternateGlyphIDs
+pub const GLYPH_LIST: Row = &[one!(UINT16), many!(UINT16)];
+
+pub const LIGATURE_SET: Row = set_of!(Kind::Ligature);
+
+// ligatureGlyph, componentCount; componentGlyphIDs
+pub const LIGATURE: Row = &[one!(UINT16, UINT16), run!(FEWER; UINT16)];
+
+// substFormat, coverageOffset, backtrackGlyphCount; backtrackCoverageOffsets; lookaheadGlyphCount; lookaheadCoverageOffsets; glyphCount; substituteGlyphIDs
+pub const REVERSE_CHAIN_SINGLE_SUBST: Row = &[
+    one!(is!(1), offset16!(Kind::Coverage), UINT16),
+    many!(offset16!(Kind::Coverage)),
+    one!(UINT16),
+    many!(offset16!(Kind::Coverage)),
+    one!(UINT16),
+    many!(UINT16),
+];

@@ -9,8 +9,7 @@ use Rattle.gsub_walk.specs.declared.walk.Walk.{Walk}
 use Rattle.gsub_walk.specs.declared.walk.Move.{Move}
 use Rattle.gsub_walk.specs.Rest.{rest_of, Standing, Goes, MovesBy}
 use Rattle.gsub_show.specs.declared.visits.Visited.{Visited}
-use Rattle.gsub_show.specs.declared.visits.Counted.{Counted}
-use Rattle.gsub_show.specs.declared.visits.Counted.TheVariants.{On}
+use Rattle.std.specs.Prelude.{Option, Some}
 use Rattle.gsub_show.specs.Visits.{GoesOn}
 
 module _ (b : List ℕ) (w next : Walk) where
@@ -21,11 +20,11 @@ module _ (b : List ℕ) (w next : Walk) where
   gone : {o : Op} → Goes b w o next → Walked
   gone g = record { stands = g.stands; less = omega (arith, ap length g.made) }
 
-  pub walked : (m : Move) {c : Counted} (v : Visited) → MovesBy b w m next → GoesOn m c → c ≡ On v → Walked
+  pub walked : (m : Move) {c : Option Visited} (v : Visited) → MovesBy b w m next → GoesOn m c → c ≡ Some v → Walked
   unfolding MovesBy GoesOn
   walked m {c} v h g e = go m h (rw e at g)
     where
-      go : (m : Move) → MovesBy b w m next → GoesOn m (On v) → Walked
+      go : (m : Move) → MovesBy b w m next → GoesOn m (Some v) → Walked
       go Move.Begin h g = gone h
       go (Move.Put at width) h g = gone h.0
       go (Move.New at width) h g = gone h.0

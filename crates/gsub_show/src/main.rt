@@ -6,8 +6,7 @@ mod names;
 mod substitutes;
 mod visits;
 
-use answer::Tally;
-use gsub_promote::PromoteAnswer;
+use gsub_promote::Promoted;
 use names::{features, scripts};
 use report::{text, value};
 use report_gsub::{LONGEST, goes_on, tell, tell_promoted, tell_too_long};
@@ -21,10 +20,11 @@ fn objects(to: &impl Print, name: &[u8], n: u64, bytes: u64) {
 }
 
 // The table as it stands, and what the session holds of it, the Extensions of promoted lookups among it.
-fn kept(to: &impl Print, table: &[u8], promoted: usize, held: Tally) {
+fn kept(to: &impl Print, table: &[u8], promoted: Promoted) {
     let v = visits(table);
     objects(to, b"read: ", v.objects, v.bytes);
-    tell_promoted(to, promoted);
+    tell_promoted(to, promoted.lookups);
+    let held = promoted.tally;
     objects(
         to,
         b"equal ones kept once: ",
@@ -46,34 +46,16 @@ fn compare(to: &impl Print, table: &[u8], packed: &[u8]) {
     text(to, b" single substitutes differ\n");
 }
 
-// Whether the first bytes of `out`, so many, are these.
-fn same(out: &[u8], length: usize, packed: &[u8]) -> bool {
-    if length != packed.len() {
-        return false;
-    }
-    if out.len() < length {
-        return false;
-    }
-    let mut i = 0;
-    while i < packed.len() {
-        if out[i] != packed[i] {
-            return false;
-        }
-        i += 1;
-    }
-    true
-}
-
 // In a second session.
 fn read_again(to: &impl Print, table: &[u8], packed: &[u8]) {
     let mut out: [u8; LONGEST] = [0; LONGEST];
     let told = report_gsub::repack(packed, &mut out);
-    let PromoteAnswer::Done(_, _, length, _) = told else {
+    let Ok(again) = told else {
         text(to, b"read again: ");
         tell(to, told);
         return;
     };
-    if same(&out, length, packed) {
+    if again.length == packed.len() && out.starts_with(packed) {
         text(to, b"packed again: the same bytes\n");
     } else {
         text(to, b"packed again: OTHER BYTES\n");
@@ -85,23 +67,23 @@ fn read_again(to: &impl Print, table: &[u8], packed: &[u8]) {
 fn show_packed(to: &impl Print, table: &[u8], out: &[u8], length: usize) {
     value(to, b"packed: ", length as u64);
     text(to, b" bytes\n");
-    if length <= out.len() {
-        read_again(to, table, &out[0..length]);
+    if let Some(packed) = out.get(..length) {
+        read_again(to, table, packed);
     }
 }
 
 fn show(to: &impl Print, table: &[u8]) {
     let mut out: [u8; LONGEST] = [0; LONGEST];
     let told = report_gsub::repack(table, &mut out);
-    let PromoteAnswer::Done(promoted, _, length, held) = told else {
+    let Ok(promoted) = told else {
         tell(to, told);
         return;
     };
     scripts(to, table);
     features(to, table);
     lookups(to, table);
-    kept(to, table, promoted, held);
-    show_packed(to, table, &out, length);
+    kept(to, table, promoted);
+    show_packed(to, table, &out, promoted.length);
 }
 
 fn main(rt: HostRuntime) {

@@ -15,13 +15,10 @@ const RECORD: usize = 6;
 
 // A letter of a tag; a question mark where there is none.
 fn letter(byte: usize) -> u8 {
-    if byte < 32 {
-        return b'?';
+    match byte {
+        32..=126 => byte as u8,
+        _ => b'?',
     }
-    if 126 < byte {
-        return b'?';
-    }
-    byte as u8
 }
 
 fn tag(to: &impl Print, table: &[u8], at: usize)
@@ -43,11 +40,8 @@ fn tag(to: &impl Print, table: &[u8], at: usize)
 fn tags(to: &impl Print, table: &[u8], list: usize)
     requires { list < capacity 2 }
 {
-    let count = word_at(table, list);
-    let mut i = 0;
-    while i < count {
+    for i in 0..word_at(table, list) {
         tag(to, table, list + (2 + RECORD * i));
-        i += 1;
     }
     text(to, b"\n");
 }

@@ -9,30 +9,15 @@ use report::{text, value};
 // Where the Header has the offset of its LookupList.
 const LOOKUP_LIST: usize = 8;
 
-// Glyphs are numbers of 16 bits.
-const GLYPHS: usize = 1 << 16;
-
 // The lookup types of single substitution and of an Extension, behind which it may stand.
 const SINGLE: usize = 1;
 
 const EXTENSION: usize = 7;
 
-fn differs(a: u16, b: u16) -> u64
-    ensures { result ≤ 1 }
-{
-    if a == b { 0 } else { 1 }
-}
-
 // For how many glyphs the lookup has another.
 fn substituted(table: &[u8], lookup: usize) -> u64 {
-    let mut n: u64 = 0;
-    let mut g = 0;
-    while g < GLYPHS {
-        let glyph = g as u16;
-        n += differs(substitute(table, lookup, glyph), glyph);
-        g += 1;
-    }
-    n
+    let others = (0..=u16::MAX).filter(|glyph| substitute(table, lookup, *glyph) != *glyph);
+    others.count() as u64
 }
 
 // Only single substitution is shown glyph by glyph.
@@ -59,10 +44,8 @@ pub fn lookups(to: &impl Print, table: &[u8]) {
     let count = word_at(table, list);
     value(to, b"lookups: ", count as u64);
     text(to, b"\n");
-    let mut lookup = 0;
-    while lookup < count {
+    for lookup in 0..count {
         show_lookup(to, table, list, lookup);
-        lookup += 1;
     }
 }
 
@@ -78,17 +61,9 @@ fn type_of(table: &[u8], lookup: usize) -> usize
 fn differing_glyphs(table: &[u8], other: &[u8], lookup: usize) -> u64
     ensures { result ≤ capacity 2 }
 {
-    let mut n: u64 = 0;
-    let mut g = 0;
-    while g < GLYPHS {
-        let glyph = g as u16;
-        n += differs(
-            substitute(table, lookup, glyph),
-            substitute(other, lookup, glyph),
-        );
-        g += 1;
-    }
-    n
+    let differing = (0..=u16::MAX).filter(|glyph| substitute(table, lookup, *glyph)
+        != substitute(other, lookup, *glyph));
+    differing.count() as u64
 }
 
 // In a lookup that may have single substitution.
@@ -104,12 +79,9 @@ fn differing_in(table: &[u8], other: &[u8], lookup: usize) -> u64
 
 // In all lookups of the first.
 pub fn differing(table: &[u8], other: &[u8]) -> u64 {
-    let count = word_at(table, word_at(table, LOOKUP_LIST));
     let mut n: u64 = 0;
-    let mut lookup = 0;
-    while lookup < count {
+    for lookup in 0..word_at(table, word_at(table, LOOKUP_LIST)) {
         n += differing_in(table, other, lookup);
-        lookup += 1;
     }
     n
 }

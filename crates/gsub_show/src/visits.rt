@@ -13,49 +13,34 @@ pub struct Visited {
     pub bytes: u64,
 }
 
-#[derive(Clone, Copy)]
-enum Counted {
-    On(Visited),
-    Over,
-}
-
 fn more(n: u64, by: u64) -> u64 {
-    if MOST < n {
-        return n;
-    }
-    if MOST < by {
-        return n;
-    }
-    n + by
+    if MOST < n || MOST < by { n } else { n + by }
 }
 
 fn put(v: Visited, width: usize) -> Visited {
     Visited {
-        objects: v.objects,
         bytes: more(v.bytes, width as u64),
+        ..v
     }
 }
 
 fn closed(v: Visited) -> Visited {
     Visited {
         objects: more(v.objects, 1),
-        bytes: v.bytes,
+        ..v
     }
 }
 
-// With one move more.
+// With one move more; none where the walk has ended.
 #[tactic(auto, unfolding(crate::specs::Visits::GoesOn))]
-fn with_move(v: Visited, m: Move) -> Counted
+fn with_move(v: Visited, m: Move) -> Option<Visited>
     ensures { GoesOn m result }
 {
     match m {
-        Move::Begin => Counted::On(v),
-        Move::Put(_, width) => Counted::On(put(v, width)),
-        Move::New(_, width) => Counted::On(put(v, width)),
-        Move::Link(width) => Counted::On(put(v, width)),
-        Move::End => Counted::On(closed(v)),
-        Move::Stop(_) => Counted::Over,
-        Move::Done => Counted::Over,
+        Move::Begin => Some(v),
+        Move::Put(_, width) | Move::New(_, width) | Move::Link(width) => Some(put(v, width)),
+        Move::End => Some(closed(v)),
+        Move::Stop(_) | Move::Done => None,
     }
 }
 
@@ -65,16 +50,8 @@ pub fn visits(table: &[u8]) -> Visited {
         objects: 0,
         bytes: 0,
     };
-    while 0 < walk.depth {
-        let moved = step(table, walk);
-        let m = moved.made;
-        let told = with_move(v, m);
-        let Counted::On(next) = told else {
-            return v;
-        };
+    while let Some(next) = with_move(v, step(table, &mut walk)) {
         v = next;
-        let after = moved.walk;
-        walk = after;
     }
     v
 }

@@ -4,7 +4,7 @@
 ghost use Rattle.std.specs.Prelude.{◌≡◌, ◌+◌, ◌*◌, ◌≤◌, ◌<◌};
 ghost use Rattle.big_endian.specs.BigEndian.{capacity};
 ghost use Rattle.gsub.specs.Substitute.{in_glyphs, in_ranges, coverage_index, single as singleIn, subtable, type_of, by_subtables, word_from, child_from, far_from, substitute_from};
-ghost use Rattle.gsub_substitute.specs.Found.{index_of, farthest, BySubtable};
+ghost use Rattle.gsub_substitute.specs.Found.{farthest, BySubtable};
 
 use gsub::word_at;
 
@@ -18,13 +18,6 @@ const HIGH: usize = 1 << 16;
 const SINGLE: usize = 1;
 
 const EXTENSION: usize = 7;
-
-// A glyph's coverage index, or its substitute, where there is one.
-#[derive(Clone, Copy)]
-enum Index {
-    None,
-    At(usize),
-}
 
 // The table that the offset at `at` of the table at `place` leads to.
 fn child(table: &[u8], place: usize, at: usize) -> usize
@@ -43,43 +36,39 @@ fn far_child(table: &[u8], place: usize, at: usize) -> usize
     place + (word_at(table, from) * HIGH + word_at(table, from + 2))
 }
 
-// The first glyph of a Coverage that is this one.
-fn in_glyphs(table: &[u8], coverage: usize, glyph: usize) -> Index
+// A glyph's coverage index in a Coverage of format 1: the number of the first glyph there that it is.
+fn in_glyphs(table: &[u8], coverage: usize, glyph: usize) -> Option<usize>
     requires { coverage ≤ farthest + capacity 2 }
-    ensures { index_of result ≡ in_glyphs (word_from table.now) (child_from table.now) coverage glyph 0 (word_from table.now coverage 2) }
+    ensures { result ≡ in_glyphs (word_from table.now) (child_from table.now) coverage glyph 0 (word_from table.now coverage 2) }
 {
-    let count = word_at(table, coverage + 2);
-    let mut i = 0;
-    while i < count {
+    for i in 0..word_at(table, coverage + 2) {
         if word_at(table, coverage + (4 + 2 * i)) == glyph {
-            return Index::At(i);
+            return Some(i);
         }
-        i += 1;
     }
-    Index::None
+    None
 }
 
-// The first range of a Coverage that holds the glyph.
-fn in_ranges(table: &[u8], coverage: usize, glyph: usize) -> Index
+// In one of format 2: by the first range that holds it.
+fn in_ranges(table: &[u8], coverage: usize, glyph: usize) -> Option<usize>
     requires { (coverage ≤ farthest + capacity 2) × (glyph < capacity 2) }
-    ensures { index_of result ≡ in_ranges (word_from table.now) (child_from table.now) coverage glyph 0 (word_from table.now coverage 2) }
+    ensures { result ≡ in_ranges (word_from table.now) (child_from table.now) coverage glyph 0 (word_from table.now coverage 2) }
 {
-    let count = word_at(table, coverage + 2);
-    let mut i = 0;
-    while i < count {
+    for i in 0..word_at(table, coverage + 2) {
         let start = word_at(table, coverage + (4 + 6 * i));
         let end = word_at(table, coverage + (6 + 6 * i));
-        if start <= glyph && glyph <= end {
-            return Index::At(word_at(table, coverage + (8 + 6 * i)) + (glyph - start));
+        if (start..=end).contains(&glyph) {
+            return Some(word_at(table, coverage + (8 + 6 * i)) + (glyph - start));
         }
-        i += 1;
     }
-    Index::None
+    None
 }
 
-fn coverage_index(table: &[u8], coverage: usize, glyph: usize) -> Index
+// In one of either format.
+#[tactic(auto, unfolding(gsub::specs::Substitute::coverage_index))]
+fn coverage_index(table: &[u8], coverage: usize, glyph: usize) -> Option<usize>
     requires { (coverage ≤ farthest + capacity 2) × (glyph < capacity 2) }
-    ensures { index_of result ≡ coverage_index (word_from table.now) (child_from table.now) coverage glyph }
+    ensures { result ≡ coverage_index (word_from table.now) (child_from table.now) coverage glyph }
 {
     if word_at(table, coverage) == 1 {
         return in_glyphs(table, coverage, glyph);
@@ -103,6 +92,7 @@ fn single(table: &[u8], subtable: usize, glyph: usize, index: usize) -> usize
 }
 
 // The subtable of number i of a Lookup, behind an Extension where its type is 7.
+#[tactic(auto, unfolding(gsub::specs::Substitute::subtable))]
 fn subtable_of(table: &[u8], lookup: usize, i: usize) -> usize
     requires { (lookup ≤ 2 * capacity 2) × (i < capacity 2) }
     ensures { (result ≡ subtable (word_from table.now) (child_from table.now) (far_from table.now) lookup i) × (result ≤ farthest) }
@@ -115,6 +105,7 @@ fn subtable_of(table: &[u8], lookup: usize, i: usize) -> usize
 }
 
 // Its type, which is the Extension's there.
+#[tactic(auto, unfolding(gsub::specs::Substitute::type_of))]
 fn type_of(table: &[u8], lookup: usize, i: usize) -> usize
     requires { (lookup ≤ 2 * capacity 2) × (i < capacity 2) }
     ensures { result ≡ type_of (word_from table.now) (child_from table.now) lookup i }
@@ -128,20 +119,16 @@ fn type_of(table: &[u8], lookup: usize, i: usize) -> usize
 }
 
 // What the subtable of number i makes of the glyph, if it is of type 1 and covers it.
-fn by_subtable(table: &[u8], lookup: usize, i: usize, glyph: usize) -> Index
+fn by_subtable(table: &[u8], lookup: usize, i: usize, glyph: usize) -> Option<usize>
     requires { (lookup ≤ 2 * capacity 2) × (i < capacity 2) × (glyph < capacity 2) }
     ensures { BySubtable table.now lookup i glyph result }
 {
     if type_of(table, lookup, i) != SINGLE {
-        return Index::None;
+        return None;
     }
     let subtable = subtable_of(table, lookup, i);
-    let coverage = child(table, subtable, 2);
-    let found = coverage_index(table, coverage, glyph);
-    match found {
-        Index::At(index) => Index::At(single(table, subtable, glyph, index)),
-        Index::None => Index::None,
-    }
+    let index = coverage_index(table, child(table, subtable, 2), glyph)?;
+    Some(single(table, subtable, glyph, index))
 }
 
 // By the first subtable of a Lookup that is of type 1 and covers the glyph.
@@ -149,19 +136,16 @@ fn by_subtables(table: &[u8], lookup: usize, glyph: usize) -> usize
     requires { (lookup ≤ 2 * capacity 2) × (glyph < capacity 2) }
     ensures { (result ≡ by_subtables (word_from table.now) (child_from table.now) (far_from table.now) lookup glyph 0 (word_from table.now lookup 4)) × (result < capacity 2) }
 {
-    let count = word_at(table, lookup + 4);
-    let mut i = 0;
-    while i < count {
-        let made = by_subtable(table, lookup, i, glyph);
-        if let Index::At(substitute) = made {
+    for i in 0..word_at(table, lookup + 4) {
+        if let Some(substitute) = by_subtable(table, lookup, i, glyph) {
             return substitute;
         }
-        i += 1;
     }
     glyph
 }
 
 // The glyph that stands for `glyph` after the lookup of this number; the glyph itself where no subtable covers it, or where there is no such lookup.
+#[tactic(auto, unfolding(gsub::specs::Substitute::substitute_in))]
 pub fn substitute(table: &[u8], lookup: usize, glyph: u16) -> u16
     ensures { result ≡ substitute_from table.now lookup glyph }
 {

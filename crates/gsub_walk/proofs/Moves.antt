@@ -1,6 +1,6 @@
 -- The moves of each mode, as the code makes them.
 use mathlib.Core.Path.{◌≡◌, refl, sym, ap, subst, ◌∙◌}
-use Prim.Native.Nat.{ℕ, ◌+◌, ◌-◌, ◌*◌, ◌≤◌, ◌<◌, ◌^◌}
+use Prim.Native.Nat.{ℕ, ◌+◌, ◌*◌, ◌≤◌, ◌<◌, ◌^◌}
 use mathlib.Core.List.{List, [], ◌∷◌}
 use mathlib.Core.Bool.{Bool, true, false, true≢false, ◌&&◌}
 use native.Mathlib.Nat.{add-zero}
@@ -31,7 +31,7 @@ use Rattle.gsub.proofs.Tags.{no-tag}
 use Rattle.gsub.proofs.Places.{From, Plain as PlainField}
 use Rattle.gsub.proofs.Substitutes.{lookup-type}
 use Rattle.gsub_rows.specs.Fields.{farthest, most_width, Narrow, Found, IsLookup, Fits}
-use Rattle.gsub_rows.specs.declared.fields.Next.TheVariants.{Some}
+use Rattle.std.specs.Prelude.{Some}
 use Rattle.gsub_walk.specs.declared.walk.Frame.{Frame}
 use Rattle.gsub_walk.specs.declared.walk.Walk.{Walk}
 use Rattle.gsub_walk.specs.declared.walk.Move.TheVariants as Move
@@ -91,12 +91,6 @@ child_fits b bytes (New type) p a k q = tt
 -- ---- a field that is read from the table itself
 
 module _ {b : List ℕ} {f : Frame} (g : Field) where
-  pub as_plain : f.mode ≡ Plain → AsIs b f g
-  as_plain e = record { place_same = rw e; long_same = rw e; bytes_same = rw e; child-same = λ q. rw e; rule-same = λ v. rw e }
-
-  pub as-last : (n : ℕ) → f.mode ≡ Last n → AsIs b f g
-  as-last n e = record { place_same = rw e; long_same = rw e; bytes_same = rw e; child-same = λ q. rw e; rule-same = λ v. rw e }
-
   -- a Lookup's fields have nothing to do with tags
   pub as-promoted : f.mode ≡ Promoted → FrameOk f → Found (fields_in b f) f.index (Some g) → (f.index ≡ 0 → ⊥) → AsIs b f g
   unfolding Fits Found

@@ -16,8 +16,7 @@ use Rattle.gsub.specs.Tables.{uint16}
 use Rattle.gsub.specs.Ops.{value_at, act, begin, put, link, end, stop, act_ops, fields_ops}
 use Rattle.gsub.specs.Meaning.{deepest}
 use Rattle.gsub.specs.Promote.{child_place, mode_ops}
-use Rattle.gsub_rows.specs.declared.fields.Next.{Next}
-use Rattle.gsub_rows.specs.declared.fields.Next.TheVariants.{Some, None}
+use Rattle.std.specs.Prelude.{Option, Some, None}
 use Rattle.gsub_rows.specs.Fields.{farthest, Found, Narrow, Fits}
 use Rattle.gsub_walk.specs.declared.walk.Frame.{Frame}
 use Rattle.gsub_walk.specs.declared.walk.Walk.{Walk}
@@ -85,14 +84,14 @@ module _ (b : List ℕ) {w : Walk} (s : Standing w) (o : 0 < w.depth) {f : Frame
     innermost-ok.narrow,
   )
 
-  pub end-made : {r : Walk} {x : Next} → w.back ≡ false → Found (fields_of b f) f.index x → x ≡ None → r ≡ left w → MovesBy b w Move.End r
+  pub end-made : {r : Walk} {x : Option Field} → w.back ≡ false → Found (fields_of b f) f.index x → x ≡ None → r ≡ left w → MovesBy b w Move.End r
   unfolding MovesBy rest_of Found
   end-made h z m q =
       let none : fields_left b f ≡ [] = drop_of_length-le (fields_of b f) (rw m at z) in
       let d : suc n ≡ deepest - (w.depth - 1) = omega (arith, s.deep) in
       rw q record { made = rest-is false h ∙ rest_end b n f fs none ∙ ap (λ z. end ∷ rest b z true fs) d; stands = left-stands w s o }
 
-  pub next-is : {x : Next} {g : Field} → w.back ≡ false → Found (fields_of b f) f.index x → x ≡ Some g → NextIs b w f g
+  pub next-is : {x : Option Field} {g : Field} → w.back ≡ false → Found (fields_of b f) f.index x → x ≡ Some g → NextIs b w f g
   next-is h z m = record { stands = s; inside = o; forth = h; innermost = e; found = rw m at z }
 
 -- behind a field that ends near enough

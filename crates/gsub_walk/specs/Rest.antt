@@ -1,5 +1,5 @@
 -- What is left to do of a walk: the ops of the open tables' fields, from the innermost out.
-use Rattle.std.specs.Prelude.{◌≡◌, ℕ, zero, suc, ◌+◌, ◌-◌, ◌*◌, ◌≤◌, ◌<◌, List, [], ◌∷◌, ◌++◌, Bool, true, false, length, get_or, drop, set, replicate}
+use Rattle.std.specs.Prelude.{◌≡◌, ℕ, zero, suc, ◌+◌, ◌-◌, ◌*◌, ◌≤◌, ◌<◌, List, [], ◌∷◌, ◌++◌, Bool, true, false, length, get_or, drop, set, replicate, Some}
 use Rattle.lists.specs.Lists.{part}
 use Rattle.gsub.specs.declared.Scope.TheVariants.{Single}
 use Rattle.gsub.specs.declared.Kind.{Kind}
@@ -11,13 +11,10 @@ use Rattle.gsub.specs.declared.Mode.TheVariants.{Plain as plain}
 use Rattle.gsub.specs.Ops.{by_rule, feature_at, Op, begin, put, link, end, stop, fields_ops}
 use Rattle.gsub.specs.Promote.{new_bytes, bytes_in, place_in, child_mode, child_place, mode_ops}
 use Rattle.gsub.specs.Meaning.{deepest}
-use Rattle.gsub_rows.specs.declared.fields.Next.TheVariants.{Some}
 use Rattle.gsub_rows.specs.Fields.{farthest, most_width, Found, Fits}
 use Rattle.gsub_walk.specs.declared.walk.Frame.{Frame}
 use Rattle.gsub_walk.specs.declared.walk.Walk.{Walk}
-use Rattle.gsub_walk.specs.declared.walk.Moved.{Moved}
 use Rattle.gsub_walk.specs.declared.walk.Move.{Move}
-use Rattle.gsub_walk.specs.declared.walk.Move.TheVariants as Move
 
 -- ---- the open tables, the innermost first
 
@@ -123,9 +120,6 @@ MovesBy b w (Move.Link width) next = Goes b w (link width) next × (width ≤ mo
 MovesBy b w Move.End next = Goes b w end next
 MovesBy b w (Move.Stop p) next = Stops b w p
 MovesBy b w Move.Done next = rest_of b w ≡ []
-
-abbrev pub Moves : List ℕ → Walk → Moved → Type 0
-Moves b w s = MovesBy b w s.made s.walk
 
 -- g is the next field of f, the innermost table
 pub record NextIs (b : List ℕ) (w : Walk) (f : Frame) (g : Field) : Type 0 where

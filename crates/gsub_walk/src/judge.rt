@@ -7,6 +7,7 @@ use crate::features::feature_at;
 use gsub::{Act, Field, Rule};
 
 // By the number in it; the tag before `at` plays a part for a Feature alone.
+#[tactic(auto, unfolding(gsub::specs::Ops::by_rule))]
 fn by_rule(table: &[u8], at: usize, rule: Rule, v: usize) -> Act
     requires { at ≤ farthest }
     ensures { result ≡ actOf rule (feature_at table.now at) v }
@@ -28,22 +29,18 @@ fn by_rule(table: &[u8], at: usize, rule: Rule, v: usize) -> Act
 pub fn lies_in(table: &[u8], at: usize, width: usize) -> bool
     ensures { result ≡ leb (at + width) (length table.now) }
 {
-    if table.len() < at {
-        return false;
-    }
-    width <= table.len() - at
+    at <= table.len() && width <= table.len() - at
 }
 
 // The field at `at`: refused where it passes the slice's end, else by its number.
+#[tactic(auto, unfolding(gsub::specs::Ops::act))]
 pub fn judge(table: &[u8], at: usize, f: Field) -> Act
     requires { Narrow f × (at ≤ farthest) }
     ensures { result ≡ act table.now at f }
 {
-    let width = f.width;
-    let rule = f.rule;
-    if lies_in(table, at, width) {
-        let v = big_endian::read(table, at, width) as usize;
-        return by_rule(table, at, rule, v);
+    if !lies_in(table, at, f.width) {
+        return Act::Refuse;
     }
-    Act::Refuse
+    let v = big_endian::read(table, at, f.width) as usize;
+    by_rule(table, at, f.rule, v)
 }

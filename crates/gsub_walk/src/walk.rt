@@ -1,14 +1,14 @@
 // The tables that a read is in, and its next move.
-ghost use Rattle.std.specs.Prelude.{◌≡◌, true, false, ℕ, ◌+◌, ◌-◌, ◌<◌, ◌≤◌, get_or, List};
+ghost use Rattle.std.specs.Prelude.{◌≡◌, ℕ, ◌-◌, ◌<◌, ◌≤◌, get_or, List};
 ghost use Rattle.gsub.specs.declared.Mode.TheVariants.{Promoted, New};
 ghost use Rattle.gsub.specs.Meaning.{deepest};
 ghost use Rattle.gsub_rows.specs.Fields.{most_width, Narrow};
-ghost use Rattle.gsub_walk.specs.Rest.{Standing, FrameOk, no_frame, advanced, entered, linked, left, Moves, NextIs, AsIs, begun_at};
+ghost use Rattle.gsub_walk.specs.Rest.{Standing, FrameOk, no_frame, frame_of, next_of, advanced, entered, left, MovesBy, NextIs, AsIs, begun_at};
 
 use crate::judge::{judge, lies_in};
 use crate::modes::child_mode;
 use gsub::{Act, EXTENSION_SIZE, Field, Kind, Mode, NEW};
-use gsub_rows::fields::{Next, next_in};
+use gsub_rows::fields::next_in;
 
 // Header, LookupList, Lookup, Extension, a subtable, a set, a rule: none lies deeper.
 const DEEPEST: usize = 7;
@@ -29,8 +29,37 @@ pub struct Frame {
     pub width: usize,
 }
 
+impl Frame {
+    // A table of which no field is read.
+    fn begun(mode: Mode, kind: Kind, place: usize) -> Frame
+        ensures { result ≡ frame_of mode kind place }
+    {
+        Frame {
+            mode,
+            kind,
+            place,
+            index: 0,
+            at: 0,
+            width: 0,
+        }
+    }
+
+    // Moved behind its next field, of this width.
+    fn behind(self, width: usize) -> Frame
+        requires { FrameOk self × (width ≤ most_width) }
+        ensures { result ≡ next_of self width }
+    {
+        Frame {
+            index: self.index + 1,
+            at: self.at + width,
+            width,
+            ..self
+        }
+    }
+}
+
 // The open tables, the innermost last; `back` where the innermost one's child was just closed.
-#[derive(Clone, Copy)]
+#[derive(Drop)]
 pub struct Walk {
     pub depth: usize,
     pub back: bool,
@@ -49,10 +78,41 @@ pub enum Move {
     Done,
 }
 
-#[derive(Clone, Copy)]
-pub struct Moved {
-    pub made: Move,
-    pub walk: Walk,
+impl Walk {
+    fn innermost(&self) -> Frame
+        requires { Standing self.now × (0 < self.now.depth) }
+        ensures { result ≡ get_or self.now.frames (self.now.depth - 1) no_frame }
+    {
+        self.frames[self.depth - 1]
+    }
+
+    // The innermost table, f, moved behind a field of this width.
+    fn advance(&mut self, f: Frame, width: usize)
+        requires { Standing self.old × (0 < self.old.depth) × FrameOk f × (width ≤ most_width) }
+        ensures { self.new ≡ advanced self.old f width }
+    {
+        self.frames[self.depth - 1] = f.behind(width);
+        self.back = false;
+    }
+
+    // A child's table begun.
+    fn enter(&mut self, mode: Mode, kind: Kind, place: usize)
+        requires { Standing self.old × (self.old.depth < deepest) }
+        ensures { self.new ≡ entered self.old mode kind place }
+    {
+        self.frames[self.depth] = Frame::begun(mode, kind, place);
+        self.depth += 1;
+        self.back = false;
+    }
+
+    // The innermost table closed.
+    fn leave(&mut self)
+        requires { 0 < self.old.depth }
+        ensures { self.new ≡ left self.old }
+    {
+        self.depth -= 1;
+        self.back = true;
+    }
 }
 
 // The walk of one table, which is open.
@@ -62,183 +122,81 @@ pub fn begun(mode: Mode, kind: Kind, place: usize) -> Walk
     Walk {
         depth: 1,
         back: false,
-        frames: [Frame {
-            mode: mode,
-            kind: kind,
-            place: place,
-            index: 0,
-            at: 0,
-            width: 0,
-        }; DEEPEST],
+        frames: [Frame::begun(mode, kind, place); DEEPEST],
     }
 }
 
-// The innermost table.
-fn innermost(w: Walk) -> Frame
-    requires { Standing w × (0 < w.depth) }
-    ensures { result ≡ get_or w.frames (w.depth - 1) no_frame }
-{
-    let d = w.depth - 1;
-    w.frames[d]
-}
-
-// The innermost table, f, moved behind a field of this width.
-fn advance(w: Walk, f: Frame, width: usize) -> Walk
-    requires { Standing w × (0 < w.depth) × FrameOk f × (width ≤ most_width) }
-    ensures { result ≡ advanced w f width }
-{
-    let mut n = w;
-    let d = w.depth - 1;
-    let mode = f.mode;
-    let kind = f.kind;
-    n.frames[d] = Frame {
-        mode: mode,
-        kind: kind,
-        place: f.place,
-        index: f.index + 1,
-        at: f.at + width,
-        width: width,
-    };
-    n.back = false;
-    n
-}
-
-// A child's table begun.
-fn enter(w: Walk, mode: Mode, kind: Kind, place: usize) -> Walk
-    requires { Standing w × (w.depth < deepest) }
-    ensures { result ≡ entered w mode kind place }
-{
-    let mut n = w;
-    let d = w.depth;
-    n.frames[d] = Frame {
-        mode: mode,
-        kind: kind,
-        place: place,
-        index: 0,
-        at: 0,
-        width: 0,
-    };
-    n.depth = d + 1;
-    n.back = false;
-    n
-}
-
-// The child's link made.
-fn link_made(w: Walk) -> Walk
-    ensures { result ≡ linked w }
-{
-    let mut n = w;
-    n.back = false;
-    n
-}
-
-// The innermost table closed.
-fn leave(w: Walk) -> Walk
-    requires { 0 < w.depth }
-    ensures { result ≡ left w }
-{
-    let mut n = w;
-    n.depth = w.depth - 1;
-    n.back = true;
-    n
-}
-
 // The next move where g is the next field of f, the innermost table, and stands in the table itself.
-fn step_field(table: &[u8], w: Walk, f: Frame, g: Field) -> Moved
-    requires { NextIs table.now w f g × AsIs table.now f g }
-    ensures { Moves table.now w result }
+fn step_field(table: &[u8], w: &mut Walk, f: Frame, g: Field) -> Move
+    requires { NextIs table.now w.old f g × AsIs table.now f g }
+    ensures { MovesBy table.now w.old result w.new }
 {
     let width = g.width;
     let place = f.place;
     let at = place + f.at;
-    let act = judge(table, at, g);
-    match act {
-        Act::Keep => Moved {
-            made: Move::Put(at, width),
-            walk: advance(w, f, width),
-        },
-        Act::Refuse => Moved {
-            made: Move::Stop(at),
-            walk: w,
-        },
+    match judge(table, at, g) {
+        Act::Keep => {
+            w.advance(f, width);
+            Move::Put(at, width)
+        }
+        Act::Refuse => Move::Stop(at),
         Act::Follow(kind) => {
             let child = place + big_endian::read(table, at, width) as usize;
             if DEEPEST <= w.depth {
-                return Moved {
-                    made: Move::Stop(child),
-                    walk: w,
-                };
+                return Move::Stop(child);
             }
-            let parent = f.mode;
-            let mode = child_mode(table, parent, place, f.at, kind, child);
-            Moved {
-                made: Move::Begin,
-                walk: enter(advance(w, f, width), mode, kind, child),
-            }
+            let mode = child_mode(table, f.mode, place, f.at, kind, child);
+            w.advance(f, width);
+            w.enter(mode, kind, child);
+            Move::Begin
         }
     }
 }
 
 // Where f is a promoted Lookup, and g its lookupType.
-fn step_type(table: &[u8], w: Walk, f: Frame, g: Field) -> Moved
-    requires { NextIs table.now w f g × (f.mode ≡ Promoted) × (f.index ≡ 0) }
-    ensures { Moves table.now w result }
+fn step_type(table: &[u8], w: &mut Walk, f: Frame, g: Field) -> Move
+    requires { NextIs table.now w.old f g × (f.mode ≡ Promoted) × (f.index ≡ 0) }
+    ensures { MovesBy table.now w.old result w.new }
 {
-    let place = f.place;
     let width = g.width;
-    if lies_in(table, place, width) {
-        return Moved {
-            made: Move::New(TYPE, width),
-            walk: advance(w, f, width),
-        };
+    if !lies_in(table, f.place, width) {
+        return Move::Stop(f.place);
     }
-    Moved {
-        made: Move::Stop(place),
-        walk: w,
-    }
+    w.advance(f, width);
+    Move::New(TYPE, width)
 }
 
 // Where f is a new Extension for lookups of this type, whatever the table is.
-fn step_new(w: Walk, f: Frame, g: Field, number: usize) -> Moved
-    requires { Standing w × (0 < w.depth) × FrameOk f × Narrow g × (f.mode ≡ New number) }
-    ensures { (b : List ℕ) → NextIs b w f g → Moves b w result }
+fn step_new(w: &mut Walk, f: Frame, g: Field, number: usize) -> Move
+    requires { Standing w.old × (0 < w.old.depth) × FrameOk f × Narrow g × (f.mode ≡ New number) }
+    ensures { (b : List ℕ) → NextIs b w.old f g → MovesBy b w.old result w.new }
 {
     let width = g.width;
     let here = EXTENSION_SIZE * number + f.at;
-    let act = judge(&NEW, here, g);
-    match act {
-        Act::Keep => Moved {
-            made: Move::New(here, width),
-            walk: advance(w, f, width),
-        },
-        Act::Refuse => Moved {
-            made: Move::Stop(here),
-            walk: w,
-        },
+    match judge(&NEW, here, g) {
+        Act::Keep => {
+            w.advance(f, width);
+            Move::New(here, width)
+        }
+        Act::Refuse => Move::Stop(here),
         Act::Follow(kind) => {
             if DEEPEST <= w.depth {
-                return Moved {
-                    made: Move::Stop(f.place),
-                    walk: w,
-                };
+                return Move::Stop(f.place);
             }
-            Moved {
-                made: Move::Begin,
-                walk: enter(advance(w, f, width), Mode::Plain, kind, f.place),
-            }
+            w.advance(f, width);
+            w.enter(Mode::Plain, kind, f.place);
+            Move::Begin
         }
     }
 }
 
 // By how f is read.
-fn step_in(table: &[u8], w: Walk, f: Frame, g: Field) -> Moved
-    requires { NextIs table.now w f g }
-    ensures { Moves table.now w result }
+fn step_in(table: &[u8], w: &mut Walk, f: Frame, g: Field) -> Move
+    requires { NextIs table.now w.old f g }
+    ensures { MovesBy table.now w.old result w.new }
 {
-    let mode = f.mode;
-    match mode {
-        Mode::Plain => step_field(table, w, f, g),
-        Mode::Last(_) => step_field(table, w, f, g),
+    match f.mode {
+        Mode::Plain | Mode::Last(_) => step_field(table, w, f, g),
         Mode::Promoted => if f.index == 0 {
             step_type(table, w, f, g)
         } else {
@@ -248,32 +206,22 @@ fn step_in(table: &[u8], w: Walk, f: Frame, g: Field) -> Moved
     }
 }
 
-// The next move of a walk, and the walk after it.
-pub fn step(table: &[u8], w: Walk) -> Moved
-    requires { Standing w }
-    ensures { Moves table.now w result }
+// The next move of a walk, which is made on it.
+pub fn step(table: &[u8], w: &mut Walk) -> Move
+    requires { Standing w.old }
+    ensures { MovesBy table.now w.old result w.new }
 {
     if w.depth == 0 {
-        return Moved {
-            made: Move::Done,
-            walk: w,
-        };
+        return Move::Done;
     }
-    let f = innermost(w);
+    let f = w.innermost();
     if w.back {
-        return Moved {
-            made: Move::Link(f.width),
-            walk: link_made(w),
-        };
+        w.back = false;
+        return Move::Link(f.width);
     }
-    let mode = f.mode;
-    let kind = f.kind;
-    let n = next_in(table, mode, kind, f.place, f.index);
-    let Next::Some(g) = n else {
-        return Moved {
-            made: Move::End,
-            walk: leave(w),
-        };
+    let Some(g) = next_in(table, f.mode, f.kind, f.place, f.index) else {
+        w.leave();
+        return Move::End;
     };
     step_in(table, w, f, g)
 }

@@ -1,7 +1,6 @@
 // Packs the GSUB table of standard input: the packed table's bytes go to standard output; how many lookups are promoted, or a refusal, to standard error.
 #![tactic(auto)]
 
-use gsub_promote::PromoteAnswer;
 use report_gsub::{LONGEST, goes_on, tell, tell_promoted, tell_too_long};
 
 // The table that a pack left at the front of its output.
@@ -14,12 +13,12 @@ fn write(output: &impl Print, out: &[u8], length: usize) {
 fn repack(rt: HostRuntime, table: &[u8]) {
     let mut out: [u8; LONGEST] = [0; LONGEST];
     let told = report_gsub::repack(table, &mut out);
-    let PromoteAnswer::Done(promoted, _, length, _) = told else {
+    let Ok(promoted) = told else {
         tell(&rt.stderr(), told);
         return;
     };
-    tell_promoted(&rt.stderr(), promoted);
-    write(&rt.stdout(), &out, length);
+    tell_promoted(&rt.stderr(), promoted.lookups);
+    write(&rt.stdout(), &out, promoted.length);
 }
 
 fn main(rt: HostRuntime) {

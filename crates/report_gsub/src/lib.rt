@@ -3,8 +3,8 @@
 // No function asks anything of its caller. What can't be written is lost, and nothing is told of it.
 #![tactic(auto)]
 
-use answer::number_of;
 use gsub_promote::{PromoteAnswer, promote_gsub_whole};
+use gsub_read::Unread;
 use layout::words::LINKS_AT;
 use model_orders::LINK_WORDS;
 use std::io::Read;
@@ -53,9 +53,9 @@ fn line(to: &impl Print, name: &[u8], n: u64) {
 // A refusal; nothing of a table that was packed.
 pub fn tell(to: &impl Print, a: PromoteAnswer) {
     match a {
-        PromoteAnswer::Done(_, _, _, _) => {}
-        PromoteAnswer::BadTable(place) => line(to, b"refused 15 at ", place as u64),
-        PromoteAnswer::Refused(why) => line(to, b"refused ", number_of(why)),
+        Ok(_) => {}
+        Err(Unread::BadTable(place)) => line(to, b"refused 15 at ", place as u64),
+        Err(Unread::Refused(why)) => line(to, b"refused ", u64::from(why)),
     }
 }
 

@@ -1,37 +1,34 @@
 -- `promote_in` meets its contract: a trial more leaves what the look comes to as it was.
+use Rattle.std.proofs.lemmas.Result.{err_from_is_err_and}
 use mathlib.Core.Path.{ap, ◌∙◌}
 use native.Mathlib.Omega.{arith}
 use borrow.Author.Rules.{rules}
 use Rattle.gsub.specs.Tables.{word_at}
-use Rattle.gsub_promote.proofs.Looking.{none-looked, look-ended, look-refused, look-on, look-less}
+use Rattle.gsub_promote.proofs.Looking.{none-looked, look-unread, look-packed, look-refused, look-less, look-on}
 use Rattle.gsub_promote.proofs.promote_in.Goals as goal
 
-pub loop-why-init : goal.loop-why-init
-loop-why-init c =
+pub loop-promoted-init : goal.loop-promoted-init
+loop-promoted-init c =
     let a = c.args in
     none-looked _ a.table.now _ _ (c.word_at-most.ensures.0 ∙ ap (word_at a.table.now) c.word_at.ensures.0)
 
-pub returns-in_default : goal.returns-in_default
-returns-in_default c =
-    let inv = c.loop-why.invariant in
-    look-ended _ _ _ _ inv _ c.try_last-t.ensures c.in_default.is c.answer_of.ensures
+pub returns-in_err-promoted : goal.returns-in_err-promoted
+returns-in_err-promoted c =
+    let p = err_from_is_err_and c.from_residual.result c.from_residual.ensures.1 in
+    rw (p.1, p.2) (look-unread _ _ _ _ c.loop-promoted.invariant _ _ c.in_err-promoted.ensures)
+
+pub returns-in-Ok : goal.returns-in-Ok
+returns-in-Ok c = look-packed _ _ _ _ c.loop-promoted.invariant _ _ (rw c.in-Ok.is at c.in_ok-promoted.ensures)
 
 pub overflow_add-n : goal.overflow_add-n
-overflow_add-n c =
-    let inv = c.loop-why.invariant in
-    omega (arith, look-less _ _ _ _ inv _ c.try_last-t.ensures c.in-Unpacked.is c.goes_on.ensures c.if-goes_on.true)
+overflow_add-n c = omega (arith, look-less _ _ _ _ c.loop-promoted.invariant _ _ (rw c.in-Err.is at c.in_ok-promoted.ensures) c.goes_on.ensures c.if-goes_on.true)
 
-pub loop-why-smaller : goal.loop-why-smaller
-loop-why-smaller c =
-    let inv = c.loop-why.invariant in
-    omega (arith, look-less _ _ _ _ inv _ c.try_last-t.ensures c.in-Unpacked.is c.goes_on.ensures c.if-goes_on.true)
+pub loop-promoted-smaller : goal.loop-promoted-smaller
+loop-promoted-smaller c = omega (arith, look-less _ _ _ _ c.loop-promoted.invariant _ _ (rw c.in-Err.is at c.in_ok-promoted.ensures) c.goes_on.ensures c.if-goes_on.true)
 
-pub loop-why-preserved : goal.loop-why-preserved
-loop-why-preserved c =
-    let inv = c.loop-why.invariant in
-    look-on _ _ _ _ inv _ c.try_last-t.ensures c.in-Unpacked.is c.goes_on.ensures c.if-goes_on.true (search rules) (search rules) (search rules) (search rules)
+pub loop-promoted-preserved : goal.loop-promoted-preserved
+loop-promoted-preserved c =
+    look-on _ _ _ _ c.loop-promoted.invariant _ _ (rw c.in-Err.is at c.in_ok-promoted.ensures) c.goes_on.ensures c.if-goes_on.true (search rules) (search rules) (search rules) (search rules)
 
-pub returns-in-loop-why : goal.returns-in-loop-why
-returns-in-loop-why c =
-    let inv = c.loop-why.invariant in
-    look-refused _ _ _ _ inv _ c.try_last-t.ensures c.in-Unpacked.is c.goes_on.ensures c.if-goes_on.false c.start.ensures
+pub returns-in-Err-2 : goal.returns-in-Err-2
+returns-in-Err-2 c = look-refused _ _ _ _ c.loop-promoted.invariant _ _ (rw c.in-Err.is at c.in_ok-promoted.ensures) c.goes_on.ensures c.if-goes_on.false c.start.ensures

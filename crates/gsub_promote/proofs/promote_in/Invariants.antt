@@ -5,8 +5,8 @@ use Rattle.gsub_promote.specs.Search.{lent}
 use Rattle.gsub_promote.proofs.Looking.{Looking}
 use Rattle.gsub_promote.proofs.promote_in.Given as goal
 
-abbrev pub invariant-loop-why : goal.invariant-loop-why
-invariant-loop-why l = Looking l.scope l.table l.objects l.links (lent (stores l.initial.store l.initial.records) l.initial.out l.initial.work) l.most l.n (lent (stores l.store l.records) l.out l.work)
+abbrev pub invariant-loop-promoted : goal.invariant-loop-promoted
+invariant-loop-promoted l = Looking l.scope l.table l.objects l.links (lent (stores l.initial.store l.initial.records) l.initial.out l.initial.work) l.most l.n (lent (stores l.store l.records) l.out l.work)
 
-abbrev pub decreases-loop-why : goal.decreases-loop-why
-decreases-loop-why l = l.most - l.n
+abbrev pub decreases-loop-promoted : goal.decreases-loop-promoted
+decreases-loop-promoted l = l.most - l.n

@@ -8,12 +8,12 @@ use Rattle.gsub_walk.proofs.Moving.{begun-stands}
 use Rattle.gsub_show.proofs.Walks.{walked}
 use Rattle.gsub_show.proofs.visits.visits.Goals as goal
 
-pub loop-walk-init : goal.loop-walk-init
+pub loop-next-init : goal.loop-next-init
 unfolding Fits
-loop-walk-init c = rw c.begun-walk.ensures (begun-stands Plain (Header Whole) 0 tt (omega arith))
+loop-next-init c = rw c.begun-walk.ensures (begun-stands Plain (Header Whole) 0 tt (omega arith))
 
-pub loop-walk-smaller : goal.loop-walk-smaller
-loop-walk-smaller c = (walked _ _ _ _ _ c.step-moved.ensures c.with_move-told.ensures c.in-On.is).less
+pub loop-next-smaller : goal.loop-next-smaller
+loop-next-smaller c = (walked _ _ _ _ _ c.step.ensures c.with_move.ensures c.in-Some.is).less
 
-pub loop-walk-preserved : goal.loop-walk-preserved
-loop-walk-preserved c = (walked _ _ _ _ _ c.step-moved.ensures c.with_move-told.ensures c.in-On.is).stands
+pub loop-next-preserved : goal.loop-next-preserved
+loop-next-preserved c = (walked _ _ _ _ _ c.step.ensures c.with_move.ensures c.in-Some.is).stands

@@ -9,8 +9,8 @@ pub overflow_add-at : goal.overflow_add-at
 overflow_add-at c =
     omega (arith, place-fits c.requires.0 c.requires.1 (omega (arith, c.well_formed.0.1)))
 
-pub judge-act-requires : goal.judge-act-requires
-judge-act-requires c =
+pub judge-requires : goal.judge-requires
+judge-requires c =
     (field-narrow c.requires.0, place-fits c.requires.0 c.requires.1 (omega (arith, c.well_formed.0.1)))
 
 pub advance-requires : goal.advance-requires
@@ -20,21 +20,21 @@ advance-requires c =
 
 pub read-requires : goal.read-requires
 read-requires c =
-    (follow-room c.requires.0 c.requires.1 (omega (arith, c.well_formed.0.1)) c.judge-act.ensures c.in-Follow.is, omega (arith, (field-narrow c.requires.0).most))
+    (follow-room c.requires.0 c.requires.1 (omega (arith, c.well_formed.0.1)) c.judge.ensures c.in-Follow.is, omega (arith, (field-narrow c.requires.0).most))
 
 pub overflow_add-child : goal.overflow_add-child
 overflow_add-child c =
-    omega (arith, child-near c.requires.0 c.requires.1 (omega (arith, c.well_formed.0.1)) c.judge-act.ensures c.in-Follow.is c.read.ensures (λ i. omega (arith, c.type_inv.table i)))
+    omega (arith, child-near c.requires.0 c.requires.1 (omega (arith, c.well_formed.0.1)) c.judge.ensures c.in-Follow.is c.read.ensures (λ i. omega (arith, c.type_inv.table i)))
 
 pub returns-then-w-ge-DEEPEST : goal.returns-then-w-ge-DEEPEST
 unfolding MovesBy
 returns-then-w-ge-DEEPEST c =
-    deep-made c.requires.0 c.requires.1 (omega (arith, c.well_formed.0.1)) c.judge-act.ensures c.in-Follow.is c.read.ensures c.if-w-ge-DEEPEST.true
+    deep-made c.requires.0 c.requires.1 (omega (arith, c.well_formed.0.1)) c.judge.ensures c.in-Follow.is c.read.ensures c.if-w-ge-DEEPEST.true
 
 pub child_mode-mode-requires : goal.child_mode-mode-requires
 child_mode-mode-requires c = (
   (next-ok c.requires.0).begins,
-  child-near c.requires.0 c.requires.1 (omega (arith, c.well_formed.0.1)) c.judge-act.ensures c.in-Follow.is c.read.ensures (λ i. omega (arith, c.type_inv.table i)),
+  child-near c.requires.0 c.requires.1 (omega (arith, c.well_formed.0.1)) c.judge.ensures c.in-Follow.is c.read.ensures (λ i. omega (arith, c.type_inv.table i)),
 )
 
 pub advance-requires-in-Follow : goal.advance-requires-in-Follow
@@ -44,18 +44,18 @@ advance-requires-in-Follow c =
 
 pub enter-requires : goal.enter-requires
 enter-requires c =
-    enter-stands c.requires.0 c.requires.1 (omega (arith, c.well_formed.0.1)) c.judge-act.ensures c.in-Follow.is (omega (arith, c.if-w-ge-DEEPEST.false)) c.advance-in-Follow.ensures
+    enter-stands c.requires.0 c.requires.1 (omega (arith, c.well_formed.0.1)) c.judge.ensures c.in-Follow.is (omega (arith, c.if-w-ge-DEEPEST.false)) c.advance-in-Follow.ensures
 
 pub returns-in-Keep : goal.returns-in-Keep
 returns-in-Keep c =
-    put-made c.requires.0 c.requires.1 (omega (arith, c.well_formed.0.1)) c.judge-act.ensures c.in-Keep.is c.advance.ensures
+    put-made c.requires.0 c.requires.1 (omega (arith, c.well_formed.0.1)) c.judge.ensures c.in-Keep.is c.advance.ensures
 
 pub returns-in-Refuse : goal.returns-in-Refuse
 unfolding MovesBy
 returns-in-Refuse c =
-    refuse-made c.requires.0 c.requires.1 (omega (arith, c.well_formed.0.1)) c.judge-act.ensures c.in-Refuse.is
+    refuse-made c.requires.0 c.requires.1 (omega (arith, c.well_formed.0.1)) c.judge.ensures c.in-Refuse.is
 
 pub returns-else-w-ge-DEEPEST : goal.returns-else-w-ge-DEEPEST
 returns-else-w-ge-DEEPEST c =
-    begin-made c.requires.0 c.requires.1 (omega (arith, c.well_formed.0.1)) c.judge-act.ensures c.in-Follow.is c.read.ensures (λ i. omega (arith, c.type_inv.table i)) (omega (arith, c.if-w-ge-DEEPEST.false)) c.child_mode-mode.ensures
+    begin-made c.requires.0 c.requires.1 (omega (arith, c.well_formed.0.1)) c.judge.ensures c.in-Follow.is c.read.ensures (λ i. omega (arith, c.type_inv.table i)) (omega (arith, c.if-w-ge-DEEPEST.false)) c.child_mode-mode.ensures
     c.advance-in-Follow.ensures c.enter.ensures

@@ -10,11 +10,11 @@ advance-requires c =
     let x = c.requires.0 in
     (x.stands, x.inside, next-ok x, (field-narrow x).most)
 
-pub returns-then-lies_in : goal.returns-then-lies_in
-returns-then-lies_in c =
-    type-made c.requires.0 c.requires.1 c.requires.2 c.lies_in.ensures (omega (arith, c.well_formed.0.1)) c.if-lies_in.true c.advance.ensures
+pub returns-then-not-lies_in : goal.returns-then-not-lies_in
+unfolding MovesBy
+returns-then-not-lies_in c =
+    type-past c.requires.0 c.requires.1 c.requires.2 c.lies_in.ensures c.if-not-lies_in.true
 
 pub returns : goal.returns
-unfolding MovesBy
 returns c =
-    type-past c.requires.0 c.requires.1 c.requires.2 c.lies_in.ensures c.if-lies_in.false
+    type-made c.requires.0 c.requires.1 c.requires.2 c.lies_in.ensures (omega (arith, c.well_formed.0.1)) c.if-not-lies_in.false c.advance.ensures
