@@ -5,8 +5,7 @@ use mathlib.Core.List.{List, ◌∷◌}
 use mathlib.Core.Bool.{true}
 use lib.ListN.{length}
 use borrow.Author.Tests.{eq-eqb, ne_eqb}
-use Rattle.answer.specs.declared.Answer.{Answer}
-use Rattle.answer.specs.declared.Closing.{Closing}
+use Rattle.answer.specs.Answers.{Answer, Closing}
 use Rattle.model.specs.Told.{Told, done_close, told_by, told_by_close}
 use Rattle.model.specs.Session.{Needs, Session, tally_of, with_opens, innermost, on_innermost, twin, sealed, leaves, SessionCall, open_call, put_call, link_call, close_call, Left, settle_call, step}
 use Rattle.model_orders.specs.Object.{no_object, size_of, with_bytes, new_slot, with_link, hopeless_object}

@@ -2,26 +2,35 @@
 use mathlib.Core.Path.{◌≡◌, refl, sym, ap, ◌∙◌}
 use Prim.Native.Nat.{ℕ, zero, suc, ◌+◌, ◌≤◌, ◌<◌}
 use mathlib.Core.List.{List, [], ◌∷◌, ◌++◌}
-use mathlib.Core.Bool.{true, false, true≢false}
+use mathlib.Core.Bool.{true}
 use native.Mathlib.Omega.{arith}
 use native.Mathlib.Numerals.{add-one}
 use lib.ListN.{length, take, get_or, set}
 use lib.Seq.{take-suc-set, get_or-take, length-take-le}
 use borrow.Author.Tests.{eq-eqb, ne_eqb}
 use Rattle.lists.proofs.Elements.{get_or-inside}
-use Rattle.job_items.specs.Item.{item, is_piece, pairs}
+use Rattle.std.specs.Prelude.{Option, Some, None, Result, Ok, Err}
+use Rattle.job_items.specs.Item.{item, pairs}
 use Rattle.job_items.specs.declared.Item.{Item}
-use Rattle.job_items.specs.declared.Item.TheVariants as Item
 use Rattle.text_hex.specs.Hex.{bytes_of}
+use Rattle.answer.specs.Number.{number}
+use Rattle.answer.specs.declared.Refusal.{Refusal}
+use Rattle.answer.specs.declared.ObjectId.{ObjectId}
 use Rattle.model.specs.Told.{Told}
+use Rattle.model.proofs.Verdicts.{refused-number}
 use Rattle.model.specs.Session.{Session, open_call, put_call, link_call, close_call, Left, step}
 use Rattle.layout.specs.Sound.{sound}
 use Rattle.layout.specs.Decode.{decode}
 use Rattle.job_rules.specs.Job.{Turn, on, stop, packs, writing, piece_due, no_needs, call, most_objects, breach, inner_start, writes, child_at, first_item, piece_turn, link_turn, end_turn, next_item, turn}
 use Rattle.job_calls.specs.Leads.{Leads, Writes}
+use Rattle.job_calls.specs.declared.stop.Stop.{Stop}
+use Rattle.job_calls.specs.declared.stop.Stop.TheVariants.{Breach, Call}
 use Rattle.job_calls.specs.declared.line.Lead.{Lead}
-use Rattle.job_calls.specs.declared.line.Lead.TheVariants as Lead
 use Rattle.job_calls.proofs.Calls.{After, goes, stops}
+
+-- what is refused is not done
+pub not_done : (why : Refusal) {n : ℕ} → n ≡ number why → n ≡ 0 → ⊥
+not_done why e z = omega (arith, refused-number why)
 
 -- ---- a piece opened and put
 
@@ -49,31 +58,25 @@ module _ (vs : List ℕ) {b w : List ℕ} {t : Told} {w₁ : List ℕ} (a : Afte
 
 -- ---- the first piece line
 
-piece_is : (it : Item) → is_piece it ≡ true → it ≡ Item.Piece
-piece_is Item.Piece e = refl
-piece_is (Item.Link w i) e = absurd (true≢false (sym e))
-piece_is (Item.End n) e = absurd (true≢false (sym e))
-piece_is Item.Breach e = absurd (true≢false (sym e))
-
-not_first : (it : Item) (l : List ℕ) (s : Session) → is_piece it ≡ false → stop breach ≡ first_item it l s
-not_first Item.Piece l s e = absurd (true≢false e)
-not_first (Item.Link w i) l s e = refl
-not_first (Item.End n) l s e = refl
-not_first Item.Breach l s e = refl
+not_first : (it : Option Item) (l : List ℕ) (s : Session) → (it ≡ Some Item.Piece → ⊥) → stop breach ≡ first_item it l s
+not_first (Some Item.Piece) l s e = absurd (e refl)
+not_first (Some (Item.Link w i)) l s e = refl
+not_first (Some (Item.End n)) l s e = refl
+not_first None l s e = refl
 
 module _ (l b w ids : List ℕ) where
-  pub first-breach : sound b w ≡ true → is_piece (item l) ≡ false → Leads (turn l (piece_due (decode b w))) 0 w (Lead.Stop breach) b w ids
+  pub first-breach : sound b w ≡ true → (item l ≡ Some Item.Piece → ⊥) → Leads (turn l (piece_due (decode b w))) 0 w (Err Breach) b w ids
   unfolding turn
   first-breach h e = record { is_sound = h; limits = refl; few = omega arith; leads = not_first (item l) l (decode b w) e }
 
-  module _ (e : is_piece (item l) ≡ true) {n : ℕ} {b₁ w₁ : List ℕ} (p : Writes (bytes_of (pairs l)) b w n b₁ w₁) where
-    pub first_stops : (n ≡ 0 → ⊥) → Leads (turn l (piece_due (decode b w))) 0 w (Lead.Stop n) b₁ w₁ ids
+  module _ (e : item l ≡ Some Item.Piece) {n : ℕ} {b₁ w₁ : List ℕ} (p : Writes (bytes_of (pairs l)) b w n b₁ w₁) where
+    pub first_stops : (why : Refusal) → n ≡ number why → Leads (turn l (piece_due (decode b w))) 0 w (Err (Call why)) b₁ w₁ ids
     unfolding turn
-    first_stops f = record { is_sound = p.is_sound; limits = p.limits; few = omega arith; leads = rw (piece_is (item l) e) (sym (p.stopped [] f)) }
+    first_stops why f = record { is_sound = p.is_sound; limits = p.limits; few = omega arith; leads = rw e (ap stop (sym f) ∙ sym (p.stopped [] (not_done why f))) }
 
-    pub first_goes : n ≡ 0 → Leads (turn l (piece_due (decode b w))) 0 w (Lead.On 0) b₁ w₁ ids
+    pub first_goes : n ≡ 0 → Leads (turn l (piece_due (decode b w))) 0 w (Ok (Lead.On 0)) b₁ w₁ ids
     unfolding turn
-    first_goes f = record { is_sound = p.is_sound; limits = p.limits; few = omega arith; leads = rw (piece_is (item l) e) (sym (p.done [] f)) }
+    first_goes f = record { is_sound = p.is_sound; limits = p.limits; few = omega arith; leads = rw e (sym (p.done [] f)) }
 
 -- ---- the next piece line
 
@@ -81,8 +84,8 @@ module _ (vs : List ℕ) {b w : List ℕ} (ids : List ℕ) (count : ℕ) {t : To
   abbrev next : Left → Turn
   next c = writes vs (take count ids ++ (c.told.id ∷ [])) c.after
 
-  pub piece-not : (ids' : List ℕ) → (t.number ≡ 0 → ⊥) → Leads (piece_turn vs (decode b w) (take count ids)) (count + 1) w (Lead.Stop t.number) b₁ w₁ ids'
-  piece-not ids' n = record { is_sound = a.is_sound; limits = a.limits; few = omega arith; leads = sym (stops a next n) }
+  pub piece-not : (ids' : List ℕ) (why : Refusal) → t.number ≡ number why → Leads (piece_turn vs (decode b w) (take count ids)) (count + 1) w (Err (Call why)) b₁ w₁ ids'
+  piece-not ids' why f = record { is_sound = a.is_sound; limits = a.limits; few = omega arith; leads = ap stop (sym f) ∙ sym (stops a next (not_done why f)) }
 
   module _ (e : t.number ≡ 0) {k : ℕ} {b₂ w₂ : List ℕ} (p : Writes vs b₁ w₁ k b₂ w₂) where
     closed : piece_turn vs (decode b w) (take count ids) ≡ writes vs (take count ids ++ (t.id ∷ [])) (decode b₁ w₁)
@@ -90,10 +93,10 @@ module _ (vs : List ℕ) {b w : List ℕ} (ids : List ℕ) (count : ℕ) {t : To
         goes a next e ∙ ap (λ (s : Session). writes vs (take count ids ++ ((step no_needs close_call (decode b w)).told.id ∷ [])) s) (sym a.holds)
         ∙ ap (λ (x : Told). writes vs (take count ids ++ (x.id ∷ [])) (decode b₁ w₁)) (sym a.told)
 
-    pub piece-stops : (ids' : List ℕ) → (k ≡ 0 → ⊥) → Leads (piece_turn vs (decode b w) (take count ids)) (count + 1) w (Lead.Stop k) b₂ w₂ ids'
-    piece-stops ids' f = record { is_sound = p.is_sound; limits = p.limits ∙ a.limits; few = omega arith; leads = sym (closed ∙ p.stopped _ f) }
+    pub piece-stops : (ids' : List ℕ) (why : Refusal) → k ≡ number why → Leads (piece_turn vs (decode b w) (take count ids)) (count + 1) w (Err (Call why)) b₂ w₂ ids'
+    piece-stops ids' why f = record { is_sound = p.is_sound; limits = p.limits ∙ a.limits; few = omega arith; leads = ap stop (sym f) ∙ sym (closed ∙ p.stopped _ (not_done why f)) }
 
-    pub piece-goes : k ≡ 0 → count < length ids → (i : ℕ) → i ≡ t.id → Leads (piece_turn vs (decode b w) (take count ids)) (count + 1) w (Lead.On (count + 1)) b₂ w₂ (set ids count i)
+    pub piece-goes : k ≡ 0 → count < length ids → (i : ℕ) → i ≡ t.id → Leads (piece_turn vs (decode b w) (take count ids)) (count + 1) w (Ok (Lead.On (count + 1))) b₂ w₂ (set ids count i)
     piece-goes f h i j = record {
       is_sound = p.is_sound;
       limits = p.limits ∙ a.limits;
@@ -115,10 +118,10 @@ pub child-known : (ids : List ℕ) (count i : ℕ) → count ≤ length ids → 
 child-known ids count i h k = sym (get_or-take count ids i most_objects k ∙ get_or-inside ids i most_objects 0 (omega arith))
 
 module _ (width i : ℕ) {b w : List ℕ} (ids : List ℕ) (count : ℕ) {t : Told} {w₁ : List ℕ} (a : After (link_call width (child_at (take count ids) i) inner_start) b w t b w₁) where
-  pub link-stops : (t.number ≡ 0 → ⊥) → Leads (link_turn width i (decode b w) (take count ids)) count w (Lead.Stop t.number) b w₁ ids
-  link-stops n = record { is_sound = a.is_sound; limits = a.limits; few = omega arith; leads = sym (stops a (wrote (take count ids)) n) }
+  pub link-stops : (why : Refusal) → t.number ≡ number why → Leads (link_turn width i (decode b w) (take count ids)) count w (Err (Call why)) b w₁ ids
+  link-stops why f = record { is_sound = a.is_sound; limits = a.limits; few = omega arith; leads = ap stop (sym f) ∙ sym (stops a (wrote (take count ids)) (not_done why f)) }
 
-  pub link-goes : t.number ≡ 0 → Leads (link_turn width i (decode b w) (take count ids)) count w (Lead.On count) b w₁ ids
+  pub link-goes : t.number ≡ 0 → Leads (link_turn width i (decode b w) (take count ids)) count w (Ok (Lead.On count)) b w₁ ids
   link-goes e = record { is_sound = a.is_sound; limits = a.limits; few = omega arith; leads = sym (goes a (wrote (take count ids)) e ∙ ap (λ (s : Session). on (writing s (take count ids))) (sym a.holds)) }
 
 -- ---- the end line
@@ -130,14 +133,14 @@ module _ (n : ℕ) (b w ids : List ℕ) (count : ℕ) (h : count ≤ length ids)
   long : suc (length (take count ids)) ≡ count + 1
   long = omega (arith, length-take-le count ids h)
 
-  pub end-breach : sound b w ≡ true → (n ≡ count + 1 → ⊥) → Leads (end_turn n (decode b w) (take count ids)) 0 w (Lead.Stop breach) b w ids
+  pub end-breach : sound b w ≡ true → (n ≡ count + 1 → ⊥) → Leads (end_turn n (decode b w) (take count ids)) 0 w (Err Breach) b w ids
   end-breach s e = record { is_sound = s; limits = refl; few = omega arith; leads = rw (long, ne_eqb n (count + 1) e) }
 
   module _ (e : n ≡ count + 1) {t : Told} {b₁ w₁ : List ℕ} (a : After close_call b w t b₁ w₁) where
-    pub end-stops : (t.number ≡ 0 → ⊥) → Leads (end_turn n (decode b w) (take count ids)) 0 w (Lead.Stop t.number) b₁ w₁ ids
-    end-stops f = record { is_sound = a.is_sound; limits = a.limits; few = omega arith; leads = rw (long, eq-eqb n (count + 1) e) (sym (stops a last f)) }
+    pub end-stops : (why : Refusal) → t.number ≡ number why → Leads (end_turn n (decode b w) (take count ids)) 0 w (Err (Call why)) b₁ w₁ ids
+    end-stops why f = record { is_sound = a.is_sound; limits = a.limits; few = omega arith; leads = rw (long, eq-eqb n (count + 1) e) (ap stop (sym f) ∙ sym (stops a last (not_done why f))) }
 
-    pub end-packs : t.number ≡ 0 → (i : ℕ) → i ≡ t.id → Leads (end_turn n (decode b w) (take count ids)) 0 w (Lead.Packs i) b₁ w₁ ids
+    pub end-packs : t.number ≡ 0 → (i : ObjectId) → i.0 ≡ t.id → Leads (end_turn n (decode b w) (take count ids)) 0 w (Ok (Lead.Packs i)) b₁ w₁ ids
     end-packs f i j = record {
       is_sound = a.is_sound;
       limits = a.limits;
@@ -150,13 +153,13 @@ module _ (n : ℕ) (b w ids : List ℕ) (count : ℕ) (h : count ≤ length ids)
 
 -- ---- any line, by what it says
 
-module _ (l b w : List ℕ) (known : List ℕ) {it : Item} (e : it ≡ item l) where
+module _ (l b w : List ℕ) (known : List ℕ) {it : Option Item} (e : it ≡ item l) where
   pub turn_by : turn l (writing (decode b w) known) ≡ next_item it l (decode b w) known
   unfolding turn
   turn_by = rw (← e)
 
-pub later-breach : (k : ℕ) (b w ids : List ℕ) → sound b w ≡ true → Leads (stop breach) k w (Lead.Stop breach) b w ids
+pub later-breach : (k : ℕ) (b w ids : List ℕ) → sound b w ≡ true → Leads (stop breach) k w (Err Breach) b w ids
 later-breach k b w ids h = record { is_sound = h; limits = refl; few = omega arith; leads = refl }
 
-pub leads-more : {t : Turn} {k : ℕ} {w₀ : List ℕ} {r : Lead} {b w ids : List ℕ} (j : ℕ) → k ≤ j → Leads t k w₀ r b w ids → Leads t j w₀ r b w ids
+pub leads-more : {t : Turn} {k : ℕ} {w₀ : List ℕ} {r : Result Lead Stop} {b w ids : List ℕ} (j : ℕ) → k ≤ j → Leads t k w₀ r b w ids → Leads t j w₀ r b w ids
 leads-more j h l = record { is_sound = l.is_sound; limits = l.limits; few = omega (arith, l.few); leads = l.leads }

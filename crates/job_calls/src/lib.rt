@@ -3,4 +3,4 @@
 
 pub mod line;
 mod piece;
-pub mod told;
+pub mod stop;

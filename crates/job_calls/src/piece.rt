@@ -2,10 +2,10 @@
 ghost use Rattle.std.specs.Prelude.{◌≡◌, true, ◌*◌, ◌≤◌, length};
 ghost use Rattle.text_hex.specs.Hex.{bytes_of};
 ghost use Rattle.layout.specs.Sound.{sound};
+ghost use Rattle.model.specs.Told.{told_by};
 ghost use Rattle.steps.specs.Steps.{outcome, put_step};
 ghost use Rattle.job_calls.specs.Leads.{Writes};
 
-use crate::told::told;
 use answer::Answer;
 use session::{open_sound, put_sound};
 use text_hex::get_pairs;
@@ -17,17 +17,13 @@ fn put_hex(pairs: &[u8], store: &mut [u8], records: &mut [u32], space: &mut [u8]
 {
     get_pairs(space, pairs);
     let n = pairs.len() / 2;
-    put_sound(store, records, &space[0..n])
+    put_sound(store, records, &space[..n])
 }
 
-// Answers 0, or the refusal's number.
-pub fn write_piece(pairs: &[u8], store: &mut [u8], records: &mut [u32], space: &mut [u8]) -> u64
+pub fn write_piece(pairs: &[u8], store: &mut [u8], records: &mut [u32], space: &mut [u8]) -> Answer
     requires { (sound store.old records.old ≡ true) × (length pairs.now ≤ length space.old * 2) }
-    ensures { Writes (bytes_of pairs.now) store.old records.old result store.new records.new }
+    ensures { Writes (bytes_of pairs.now) store.old records.old (told_by result).number store.new records.new }
 {
-    let opened = told(open_sound(store, records));
-    if opened != 0 {
-        return opened;
-    }
-    told(put_hex(pairs, store, records, space))
+    open_sound(store, records)?;
+    put_hex(pairs, store, records, space)
 }

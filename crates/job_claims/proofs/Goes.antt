@@ -1,4 +1,5 @@
 -- Each call of a job, on the stores that it is lent: it tells the number that the abstract call tells, and where that is 0 the stores hold what that leaves.
+use Rattle.std.specs.Prelude.{Ok}
 use mathlib.Core.Path.{◌≡◌, refl, sym, ap, ◌∙◌}
 use Prim.Native.Nat.{ℕ, ◌≤◌}
 use mathlib.Core.List.{List}
@@ -9,7 +10,6 @@ use lib.ListN.{length, replicate}
 use Rattle.lists.specs.Lists.{pick, total, holds}
 use Rattle.answer.specs.Number.{no_tally}
 use Rattle.answer.specs.declared.Refusal.TheVariants as Refusal
-use Rattle.answer.specs.declared.Answer.TheVariants.{Done}
 use Rattle.model.specs.Judge.{Limits, Verdict, accepted, refused, verdict, in_range, judge_start}
 use Rattle.model.specs.Told.{Told}
 use Rattle.model.specs.Session.{Session, started, start_call, Left, leaves, settle_call, step, pack}
@@ -87,7 +87,7 @@ module _ (work : List ℕ) where
         v : Bool → Verdict
         v x = pick x (refused Refusal.OutOfRange) accepted
 
-        go : (x : Bool) → (left_by (settle_step (v x) s.bytes s.words (outcome (Done no_tally) (replicate (length s.bytes) 0) (start_words (limits_of m.objects m.links s.bytes) s.words)))).told
+        go : (x : Bool) → (left_by (settle_step (v x) s.bytes s.words (outcome (Ok no_tally) (replicate (length s.bytes) 0) (start_words (limits_of m.objects m.links s.bytes) s.words)))).told
             ≡ (settle_call (v x) (started m) (leaves (started m))).told
         go true = refl
         go false = refl

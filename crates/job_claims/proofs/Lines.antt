@@ -1,4 +1,5 @@
 -- A job's lines in turn: the calls of each, on the stores that those before it left.
+use Rattle.std.specs.Prelude.{None, Option, Some}
 use mathlib.Core.Path.{refl}
 use Prim.Native.Nat.{ℕ, suc, ◌+◌}
 use mathlib.Core.List.{List, [], ◌∷◌, ◌++◌}
@@ -13,10 +14,8 @@ use Rattle.model.specs.Session.{Session, started, put_call, close_call, step}
 use Rattle.steps.specs.Runs.{start, open', put, link, close, Stores, as_call}
 use Rattle.job_items.specs.Item.{pairs, item}
 use Rattle.job_items.specs.declared.Item.{Item}
-use Rattle.job_items.specs.declared.Item.TheVariants as Item
-use Rattle.job_rules.specs.Job.{bytes_due, objects_due, links_due, piece_due, writing, Turn, on, stop, packs, no_needs, call, breach, inner_start, writes, child_at, first_item, next_item, Ended, turn}
+use Rattle.job_rules.specs.Job.{bytes_due, objects_due, links_due, piece_due, writing, Turn, on, stop, packs, no_needs, call, breach, inner_start, writes, child_at, first_item, next_item, Ended, turn, Ending}
 use Rattle.job_rules.specs.Job.{run as job_run}
-use Rattle.job_rules.specs.declared.Ending.{Ending}
 use Rattle.job_claims.specs.Calls.{first_calls, next_calls, made, line_calls, JobCall, calls_from}
 use Rattle.job_claims.specs.Claim.{says_from, Asks, Lent}
 use Rattle.job_claims.proofs.Goes.{Held, later-goes, start-goes}
@@ -43,12 +42,12 @@ module _ (out work : List ℕ) where
         line-call out work n ls open' (put vs ∷ []) a (λ o. call (put_call vs) o.after (wrote ids)) (later-goes work open' refl h)
         (λ o. line-call out work n ls (put vs) [] _ (wrote ids) (later-goes work (put vs) refl o) (follows (on (writing _ ids)) _))
 
-    first-line : (it : Item) (l : List ℕ) {a : Session} {s : Stores} → Held work s a → Line out work n ls (made n (first_calls it l) a) (first_item it l a) s
+    first-line : (it : Option Item) (l : List ℕ) {a : Session} {s : Stores} → Held work s a → Line out work n ls (made n (first_calls it l) a) (first_item it l a) s
     unfolding made
-    first-line Item.Piece l h = writes_line (bytes_of (pairs l)) [] h
-    first-line (Item.Link w i) l h = line-stop out work n ls breach _
-    first-line (Item.End k) l h = line-stop out work n ls breach _
-    first-line Item.Breach l h = line-stop out work n ls breach _
+    first-line (Some Item.Piece) l h = writes_line (bytes_of (pairs l)) [] h
+    first-line (Some (Item.Link w i)) l h = line-stop out work n ls breach _
+    first-line (Some (Item.End k)) l h = line-stop out work n ls breach _
+    first-line None l h = line-stop out work n ls breach _
 
     end_line : (x : Bool) {a : Session} {s : Stores} → Held work s a
         → Line out work n ls (made n (pick x (close ∷ []) []) a) (pick x (call close_call a (λ c. packs c.after c.told.id)) (stop breach)) s
@@ -56,16 +55,16 @@ module _ (out work : List ℕ) where
     end_line true {a} h = line-call out work n ls close [] a (λ c. packs c.after c.told.id) (later-goes work close refl h) (follows (packs _ (step no_needs close_call a).told.id) _)
     end_line false h = line-stop out work n ls breach _
 
-    next-line : (it : Item) (l : List ℕ) {a : Session} (ids : List ℕ) {s : Stores} → Held work s a → Line out work n ls (made n (next_calls it l ids) a) (next_item it l a ids) s
+    next-line : (it : Option Item) (l : List ℕ) {a : Session} (ids : List ℕ) {s : Stores} → Held work s a → Line out work n ls (made n (next_calls it l ids) a) (next_item it l a ids) s
     unfolding made as_call
-    next-line Item.Piece l {a} ids h =
+    next-line (Some Item.Piece) l {a} ids h =
         let vs = bytes_of (pairs l) in
         line-call out work n ls close (open' ∷ put vs ∷ []) a (λ c. writes vs (ids ++ (c.told.id ∷ [])) c.after) (later-goes work close refl h)
         (writes_line vs (ids ++ ((step no_needs close_call a).told.id ∷ [])))
-    next-line (Item.Link w i) l {a} ids h =
+    next-line (Some (Item.Link w i)) l {a} ids h =
         let c = link w (child_at ids i) inner_start in line-call out work n ls c [] a (wrote ids) (later-goes work c refl h) (follows (on (writing _ ids)) _)
-    next-line (Item.End k) l ids h = end_line (eqb k (suc (length ids))) h
-    next-line Item.Breach l ids h = line-stop out work n ls breach _
+    next-line (Some (Item.End k)) l ids h = end_line (eqb k (suc (length ids))) h
+    next-line None l ids h = line-stop out work n ls breach _
 
   -- ---- the lines that are left
 

@@ -19,10 +19,9 @@ use Rattle.steps.specs.Pack.{pack_step}
 use Rattle.steps.specs.Runs.{StoreCall, Stores, step_on, on_stores, lent_step, as_call}
 use Rattle.claims.specs.Demand.{Made, run}
 use Rattle.claims.proofs.Packs.{PackFollows, pack-follows}
-use Rattle.job_rules.specs.Job.{Turn, stop, no_needs, call, copies_allowed, Ended, refused_at, behind_end, finished}
+use Rattle.job_rules.specs.Job.{Turn, stop, no_needs, call, copies_allowed, Ended, refused_at, behind_end, finished, Ending}
+use Rattle.job_rules.specs.Job.{refused as refused_with}
 use Rattle.job_rules.specs.Job.{run as job_run}
-use Rattle.job_rules.specs.declared.Ending.{Ending}
-use Rattle.job_rules.specs.declared.Ending.TheVariants.{Refused}
 use Rattle.job_claims.specs.Calls.{JobCall, made, pack_made, calls_from, calls}
 use Rattle.job_claims.specs.Claim.{says_from, answer_by, out_after, InTurn}
 use Rattle.job_claims.proofs.Goes.{pack-enough, Held, Goes}
@@ -63,7 +62,7 @@ module _ (out work : List ℕ) where
     pub answers : (t : Told) → e.ending ≡ answer_by rest cs (run (calls cs) s) t
     pub table : over 0 e.table out ≡ out_after (run (calls cs) s) out
 
-  pub right-none : (why n : ℕ) (s : Stores) → Right (λ t. Refused why n) [] (refused_at why n) s
+  pub right-none : (why n : ℕ) (s : Stores) → Right (λ t. refused_with why n) [] (refused_at why n) s
   unfolding run answer_by out_after InTurn
   right-none why n s = record { in_turn = tt; tells = refl; answers = λ t. refl; table = over_none 0 out }
 
@@ -93,7 +92,7 @@ module _ (out work : List ℕ) where
       record {
         in_turn = tt;
         tells = ap (λ (x : Told). x ∷ []) f.told;
-        answers = λ t. ap (λ (x : Told). pick (eqb x.number 0) (behind_end n ls x) (Refused x.number n)) (sym f.told);
+        answers = λ t. ap (λ (x : Told). pick (eqb x.number 0) (behind_end n ls x) (refused_with x.number n)) (sym f.told);
         table = go p f (refused-table (length out) root copies_allowed a) (zero_or p.told.number);
       }
     where

@@ -1,4 +1,5 @@
 -- A job opens and closes its objects in turn, so that some numbers are never told.
+use Rattle.std.specs.Prelude.{None, Option, Some}
 use mathlib.Core.Path.{◌≡◌, refl, sym, ap, ◌∙◌}
 use Prim.Native.Nat.{ℕ, suc, ◌+◌, ◌≤◌}
 use mathlib.Core.List.{List, [], ◌∷◌, ◌++◌}
@@ -11,8 +12,6 @@ use Rattle.lists.specs.Lists.{pick, total, holds}
 use Rattle.lists.proofs.Elements.{total-append}
 use Rattle.lists.proofs.Same.{and_left, and_right}
 use Rattle.text_hex.specs.Hex.{bytes_of}
-use Rattle.text.specs.declared.decimal.Number.{Number}
-use Rattle.text.specs.declared.decimal.Number.TheVariants as Number
 use Rattle.answer.specs.Number.{number}
 use Rattle.answer.specs.declared.Overflow.{Overflow}
 use Rattle.answer.specs.declared.Refusal.{Refusal}
@@ -29,7 +28,6 @@ use Rattle.model.proofs.Verdicts.{passes, refused-number}
 use Rattle.model_orders.proofs.Always.{reached-held}
 use Rattle.job_items.specs.Item.{codes, limit, pairs, item}
 use Rattle.job_items.specs.declared.Item.{Item}
-use Rattle.job_items.specs.declared.Item.TheVariants as Item
 use Rattle.job_lines.specs.Lines.{cut}
 use Rattle.job_rules.specs.Job.{most_text, Stage, bytes_due, objects_due, links_due, piece_due, writing, Turn, on, stop, packs, no_needs, call, most_bytes, in_job, out_of_range, starts, breach, given, inner_start, copies_allowed, writes, child_at, first_item, next_item, turn, Ended, refused_at, behind_end, finished, after, run, job}
 use Rattle.job_rules.specs.Job.{accepted as goes_on}
@@ -165,31 +163,31 @@ module _ (room : ℕ) where
 
   -- ---- the lines
 
-  given-good : (x : Number) (next : ℕ → Turn) → ((k : ℕ) → Good (next k)) → Good (given x next)
+  given-good : (x : Option ℕ) (next : ℕ → Turn) → ((k : ℕ) → Good (next k)) → Good (given x next)
   unfolding among
-  given-good (Number.Is k) next h = h k
-  given-good Number.Not next h = refl
+  given-good (Some k) next h = h k
+  given-good None next h = refl
 
-  first_good : (it : Item) (l : List ℕ) (a : Session) → Idle a → Good (first_item it l a)
+  first_good : (it : Option Item) (l : List ℕ) (a : Session) → Idle a → Good (first_item it l a)
   unfolding among
-  first_good Item.Piece l a i = writes-good (bytes_of (pairs l)) [] a i
-  first_good (Item.Link w k) l a i = refl
-  first_good (Item.End n) l a i = refl
-  first_good Item.Breach l a i = refl
+  first_good (Some Item.Piece) l a i = writes-good (bytes_of (pairs l)) [] a i
+  first_good (Some (Item.Link w k)) l a i = refl
+  first_good (Some (Item.End n)) l a i = refl
+  first_good None l a i = refl
 
   end-good : (x : Bool) (a : Session) → Busy a → Good (pick x (call close_call a (λ c. packs c.after c.told.id)) (stop breach))
   unfolding among
   end-good true a b = close-good a (λ c. packs c.after c.told.id) b (λ l i. i)
   end-good false a b = refl
 
-  next-good : (it : Item) (l : List ℕ) (a : Session) (ids : List ℕ) → Busy a → Good (next_item it l a ids)
+  next-good : (it : Option Item) (l : List ℕ) (a : Session) (ids : List ℕ) → Busy a → Good (next_item it l a ids)
   unfolding among
-  next-good Item.Piece l a ids b =
+  next-good (Some Item.Piece) l a ids b =
       let vs = bytes_of (pairs l) in
       close-good a (λ c. writes vs (ids ++ (c.told.id ∷ [])) c.after) b (λ c i. writes-good vs _ c.after i)
-  next-good (Item.Link w k) l a ids b = link-good w (child_at ids k) ids a b
-  next-good (Item.End n) l a ids b = end-good (eqb n (suc (length ids))) a b
-  next-good Item.Breach l a ids b = refl
+  next-good (Some (Item.Link w k)) l a ids b = link-good w (child_at ids k) ids a b
+  next-good (Some (Item.End n)) l a ids b = end-good (eqb n (suc (length ids))) a b
+  next-good None l a ids b = refl
 
   turn-good : (l : List ℕ) (s : Stage) → GoodAt s → Good (turn l s)
   unfolding turn

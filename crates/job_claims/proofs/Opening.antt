@@ -1,21 +1,18 @@
 -- The first three lines of a job: the text is refused there before any call, or its calls begin with a start.
+use Rattle.std.specs.Prelude.{None, Option, Some}
 use mathlib.Core.Path.{◌≡◌, refl}
 use Prim.Native.Nat.{ℕ, ◌+◌}
 use mathlib.Core.List.{List, [], ◌∷◌, ◌++◌}
 use mathlib.Core.Bool.{Bool, true, false}
 use lib.ListN.{length}
 use Rattle.lists.specs.Lists.{pick, holds}
-use Rattle.text.specs.declared.decimal.Number.{Number}
-use Rattle.text.specs.declared.decimal.Number.TheVariants as Number
 use Rattle.model.specs.Judge.{Limits}
 use Rattle.model.specs.Told.{Told}
 use Rattle.model.specs.Session.{started, start_call, Left}
 use Rattle.steps.specs.Runs.{start}
 use Rattle.job_items.specs.Item.{codes, limit}
-use Rattle.job_rules.specs.Job.{bytes_due, objects_due, links_due, piece_due, writing, Turn, on, stop, call, in_job, out_of_range, starts, breach, given, Ended, refused_at, turn}
+use Rattle.job_rules.specs.Job.{bytes_due, objects_due, links_due, piece_due, writing, Turn, on, stop, call, in_job, out_of_range, starts, breach, given, Ended, refused_at, turn, Ending, refused}
 use Rattle.job_rules.specs.Job.{run as job_run}
-use Rattle.job_rules.specs.declared.Ending.{Ending}
-use Rattle.job_rules.specs.declared.Ending.TheVariants.{Refused}
 use Rattle.job_claims.specs.Calls.{made, start_made, line_calls, JobCall, calls_from}
 use Rattle.job_claims.specs.Claim.{says_from, Asks, asks}
 
@@ -30,7 +27,7 @@ start_turn m = call (start_call m 0) (started m) (λ l. on (piece_due l.after))
 module _ (out work : List ℕ) where
   -- of a text of these lines: its calls, what it says where all are accepted, and what it comes to
   pub data Opened (text : List (List ℕ)) : List JobCall → (Told → Ending) → Ended → Type 0 where
-    refuses : (why n : ℕ) → Opened text [] (λ t. Refused why n) (refused_at why n)
+    refuses : (why n : ℕ) → Opened text [] (λ t. refused why n) (refused_at why n)
     begins : (n : ℕ) (ls : List (List ℕ)) (m : Limits) → Asks text m
         → Opened text (made n (start m.objects m.links ∷ []) (started m) ++ calls_from out work n ls (start_turn m)) (says_from n ls (start_turn m)) (job_run (length out) n ls (start_turn m))
 
@@ -43,12 +40,12 @@ module _ (out work : List ℕ) where
     stops n [] why = refuses why n
     stops n (l ∷ ls) why = refuses why n
 
-    at-links : (n : ℕ) (ls : List (List ℕ)) (b o : ℕ) (v : Number) → ((k : ℕ) → v ≡ Number.Is k → let m : Limits = record { objects = o; links = k; bytes = b } in holds (in_job m) ≡ true → Asks text m)
+    at-links : (n : ℕ) (ls : List (List ℕ)) (b o : ℕ) (v : Option ℕ) → ((k : ℕ) → v ≡ Some k → let m : Limits = record { objects = o; links = k; bytes = b } in holds (in_job m) ≡ true → Asks text m)
         → let t = given v (λ k. starts (record { objects = o; links = k; bytes = b })) in
         Opened text (start_made n v b o ++ calls_from out work n ls t) (says_from n ls t) (job_run (length out) n ls t)
     unfolding made
-    at-links n ls b o Number.Not h = stops n ls breach
-    at-links n ls b o (Number.Is k) h = go (holds (in_job m)) (h k refl)
+    at-links n ls b o None h = stops n ls breach
+    at-links n ls b o (Some k) h = go (holds (in_job m)) (h k refl)
       where
         m : Limits
         m = record { objects = o; links = k; bytes = b }
@@ -61,25 +58,25 @@ module _ (out work : List ℕ) where
 
   -- ---- line by line
 
-  links-opened : (n : ℕ) (x y : List ℕ) (b o : ℕ) → limit (codes "bytes=") x ≡ Number.Is b → limit (codes "objects=") y ≡ Number.Is o → (ls : List (List ℕ)) → Opens (x ∷ y ∷ ls) n ls (on (links_due b o))
+  links-opened : (n : ℕ) (x y : List ℕ) (b o : ℕ) → limit (codes "bytes=") x ≡ Some b → limit (codes "objects=") y ≡ Some o → (ls : List (List ℕ)) → Opens (x ∷ y ∷ ls) n ls (on (links_due b o))
   unfolding says_from calls_from job_run line_calls turn
   links-opened n x y b o e f [] = refuses breach (n + 1)
   links-opened n x y b o e f (z ∷ ls) = at-links (x ∷ y ∷ z ∷ ls) (n + 1) ls b o (limit (codes "links=") z) (λ k g i. asks e f g i)
 
-  objects-opened : (n : ℕ) (x : List ℕ) (b : ℕ) → limit (codes "bytes=") x ≡ Number.Is b → (ls : List (List ℕ)) → Opens (x ∷ ls) n ls (on (objects_due b))
+  objects-opened : (n : ℕ) (x : List ℕ) (b : ℕ) → limit (codes "bytes=") x ≡ Some b → (ls : List (List ℕ)) → Opens (x ∷ ls) n ls (on (objects_due b))
   unfolding says_from calls_from job_run line_calls turn
   objects-opened n x b e [] = refuses breach (n + 1)
   objects-opened n x b e (y ∷ ls) = go (limit (codes "objects=") y) refl
     where
-      go : (v : Number) → limit (codes "objects=") y ≡ v → Opens (x ∷ y ∷ ls) (n + 1) ls (given v (λ o. on (links_due b o)))
-      go (Number.Is o) f = links-opened (n + 1) x y b o e f ls
-      go Number.Not f = stops (x ∷ y ∷ ls) (n + 1) ls breach
+      go : (v : Option ℕ) → limit (codes "objects=") y ≡ v → Opens (x ∷ y ∷ ls) (n + 1) ls (given v (λ o. on (links_due b o)))
+      go (Some o) f = links-opened (n + 1) x y b o e f ls
+      go None f = stops (x ∷ y ∷ ls) (n + 1) ls breach
 
   pub opened : (n : ℕ) (ls : List (List ℕ)) → Opens ls n ls (on bytes_due)
   unfolding says_from calls_from job_run line_calls turn
   opened n [] = refuses breach (n + 1)
   opened n (x ∷ ls) = go (limit (codes "bytes=") x) refl
     where
-      go : (v : Number) → limit (codes "bytes=") x ≡ v → Opens (x ∷ ls) (n + 1) ls (given v (λ b. on (objects_due b)))
-      go (Number.Is b) e = objects-opened (n + 1) x b e ls
-      go Number.Not e = stops (x ∷ ls) (n + 1) ls breach
+      go : (v : Option ℕ) → limit (codes "bytes=") x ≡ v → Opens (x ∷ ls) (n + 1) ls (given v (λ b. on (objects_due b)))
+      go (Some b) e = objects-opened (n + 1) x b e ls
+      go None e = stops (x ∷ ls) (n + 1) ls breach

@@ -27,10 +27,8 @@ use Rattle.claims_program.proofs.Chain.{ran-run, steps-claim}
 use Rattle.claims_program.proofs.Program.{called-step}
 use Rattle.claims_program.proofs.FromC.{c-step}
 use Rattle.job_lines.specs.Lines.{cut}
-use Rattle.job_rules.specs.Job.{most_text, bytes_due, on, breach, copies_allowed, Ended, refused_at, job}
+use Rattle.job_rules.specs.Job.{most_text, bytes_due, on, breach, copies_allowed, Ended, refused_at, job, Ending, refused}
 use Rattle.job_rules.specs.Job.{run as job_run}
-use Rattle.job_rules.specs.declared.Ending.{Ending}
-use Rattle.job_rules.specs.declared.Ending.TheVariants.{Refused}
 use Rattle.job_claims.specs.Calls.{made, JobCall, calls_from, job_calls, calls}
 use Rattle.job_claims.specs.Claim.{says_from, says, Asks, asks, Suited, asked, just_stores, just_work, IsJob, EveryJob, EveryJobList}
 use Rattle.job_claims.proofs.Opening.{Opened, refuses, begins, opened}
@@ -42,7 +40,7 @@ module _ (text out work : List ℕ) (s : Stores) (h : Suited text s work) where
   unfolding says job_calls job
   job-right = go (ltb most_text (length text))
     where
-      go : (x : Bool) → Right out work (λ t. pick x (Refused breach 1) (says_from 0 (cut text) (on bytes_due) t)) (pick x [] (calls_from out work 0 (cut text) (on bytes_due)))
+      go : (x : Bool) → Right out work (λ t. pick x (refused breach 1) (says_from 0 (cut text) (on bytes_due) t)) (pick x [] (calls_from out work 0 (cut text) (on bytes_due)))
           (pick x (refused_at breach 1) (job_run (length out) 0 (cut text) (on bytes_due))) s
       go true = right-none out work breach 1 s
       go false = opened-right out work s h.lent (opened out work 0 (cut text))

@@ -1,9 +1,7 @@
 -- docs/RULES.md, 12.9: the calls of the functions of section 5 that a job makes, by its text alone, each with its line.
-use Rattle.std.specs.Prelude.{ℕ, suc, ◌+◌, List, [], ◌∷◌, ◌++◌, map, eqb, ltb, length}
+use Rattle.std.specs.Prelude.{ℕ, suc, ◌+◌, List, [], ◌∷◌, ◌++◌, map, eqb, ltb, length, Option, Some, None}
 use Rattle.lists.specs.Lists.{pick, holds}
 use Rattle.text_hex.specs.Hex.{bytes_of}
-use Rattle.text.specs.declared.decimal.Number.{Number}
-use Rattle.text.specs.declared.decimal.Number.TheVariants as Number
 use Rattle.model.specs.Judge.{Limits}
 use Rattle.model.specs.Told.{Told}
 use Rattle.model.specs.Session.{Session, started, step}
@@ -12,7 +10,6 @@ use Rattle.steps.specs.Runs.{StoreCall, start, open', put, link, close, LentCall
 use Rattle.job_lines.specs.Lines.{cut}
 use Rattle.job_items.specs.Item.{codes, limit, pairs, item}
 use Rattle.job_items.specs.declared.Item.{Item}
-use Rattle.job_items.specs.declared.Item.TheVariants as Item
 use Rattle.job_rules.specs.Job.{most_text, Stage, bytes_due, objects_due, links_due, piece_due, writing, Turn, on, stop, packs, no_needs, in_job, inner_start, copies_allowed, child_at, turn}
 
 -- ---- the calls of a line (12.2), were they all accepted
@@ -25,18 +22,18 @@ abbrev pub piece_calls : List ℕ → List StoreCall
 piece_calls l = open' ∷ put (bytes_of (pairs l)) ∷ []
 
 -- of the first line behind the limits
-abbrev pub first_calls : Item → List ℕ → List StoreCall
-first_calls Item.Piece l = piece_calls l
-first_calls (Item.Link w i) l = []
-first_calls (Item.End n) l = []
-first_calls Item.Breach l = []
+abbrev pub first_calls : Option Item → List ℕ → List StoreCall
+first_calls (Some Item.Piece) l = piece_calls l
+first_calls (Some (Item.Link w i)) l = []
+first_calls (Some (Item.End n)) l = []
+first_calls None l = []
 
 -- of any other, by the ids of the piece lines before it
-abbrev pub next_calls : Item → List ℕ → List ℕ → List StoreCall
-next_calls Item.Piece l ids = close ∷ piece_calls l
-next_calls (Item.Link w i) l ids = link w (child_at ids i) inner_start ∷ []
-next_calls (Item.End n) l ids = pick (eqb n (suc (length ids))) (close ∷ []) []
-next_calls Item.Breach l ids = []
+abbrev pub next_calls : Option Item → List ℕ → List ℕ → List StoreCall
+next_calls (Some Item.Piece) l ids = close ∷ piece_calls l
+next_calls (Some (Item.Link w i)) l ids = link w (child_at ids i) inner_start ∷ []
+next_calls (Some (Item.End n)) l ids = pick (eqb n (suc (length ids))) (close ∷ []) []
+next_calls None l ids = []
 
 -- ---- the calls that are made: the first that is refused is the last
 
@@ -53,9 +50,9 @@ made n (c ∷ cs) s =
     let l = step no_needs (as_call s.limits.bytes 0 c) s in
     record { line = n; call = on_stores c; told = l.told } ∷ pick (eqb l.told.number 0) (made n cs l.after) []
 
-abbrev pub start_made : ℕ → Number → ℕ → ℕ → List JobCall
-start_made n (Number.Is k) b o = let m : Limits = record { objects = o; links = k; bytes = b } in made n (start_calls m) (started m)
-start_made n Number.Not b o = []
+abbrev pub start_made : ℕ → Option ℕ → ℕ → ℕ → List JobCall
+start_made n (Some k) b o = let m : Limits = record { objects = o; links = k; bytes = b } in made n (start_calls m) (started m)
+start_made n None b o = []
 
 unfoldable pub line_calls : ℕ → List ℕ → Stage → List JobCall
 line_calls n l bytes_due = []

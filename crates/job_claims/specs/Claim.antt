@@ -1,8 +1,6 @@
 -- docs/RULES.md, 12.9: a job's answer by what its calls tell, and the memory that they are lent.
-use Rattle.std.specs.Prelude.{ℕ, ◌+◌, ◌≤◌, ◌≡◌, List, [], ◌∷◌, map, true, eqb, ltb, length, get_or, replicate}
+use Rattle.std.specs.Prelude.{ℕ, ◌+◌, ◌≤◌, ◌≡◌, List, [], ◌∷◌, map, true, eqb, ltb, length, get_or, replicate, Option, Some, unwrap_or}
 use Rattle.lists.specs.Lists.{pick, over, holds}
-use Rattle.text.specs.declared.decimal.Number.{Number}
-use Rattle.text.specs.declared.decimal.Number.TheVariants as Number
 use Rattle.answer.specs.Number.{no_tally}
 use Rattle.model.specs.Judge.{Limits}
 use Rattle.model.specs.Told.{Told, done}
@@ -15,9 +13,7 @@ use Rattle.claims.specs.Demand.{Made, AllClaim}
 use Rattle.claims_program.specs.Chain.{Ran, calls_of}
 use Rattle.job_lines.specs.Lines.{cut}
 use Rattle.job_items.specs.Item.{codes, limit}
-use Rattle.job_rules.specs.Job.{most_text, Stage, bytes_due, Turn, on, stop, packs, in_job, breach, copies_allowed, turn, behind_end, job}
-use Rattle.job_rules.specs.declared.Ending.{Ending}
-use Rattle.job_rules.specs.declared.Ending.TheVariants.{Refused}
+use Rattle.job_rules.specs.Job.{most_text, Stage, bytes_due, Turn, on, stop, packs, in_job, breach, copies_allowed, turn, behind_end, job, Ending, refused}
 use Rattle.job_claims.specs.Calls.{JobCall, job_calls, calls}
 
 -- ---- the answer
@@ -25,15 +21,15 @@ use Rattle.job_claims.specs.Calls.{JobCall, job_calls, calls}
 -- where every call is accepted: line n led to a turn, these lines are left, and the last call told t
 abbrev pub says_after : ℕ → List (List ℕ) → Turn → Told → (Stage → Ending) → Ending
 says_after n ls (on s) t next = next s
-says_after n ls (stop why) t next = Refused why n
+says_after n ls (stop why) t next = refused why n
 says_after n ls (packs s root) t next = behind_end n ls t
 
 unfoldable pub says_from : ℕ → List (List ℕ) → Turn → Told → Ending
-says_from n [] u t = says_after n [] u t (λ s. Refused breach (n + 1))
+says_from n [] u t = says_after n [] u t (λ s. refused breach (n + 1))
 says_from n (l ∷ ls) u t = says_after n (l ∷ ls) u t (λ s. says_from (n + 1) ls (turn l s) t)
 
 unfoldable pub says : List ℕ → Told → Ending
-says text t = pick (ltb most_text (length text)) (Refused breach 1) (says_from 0 (cut text) (on bytes_due) t)
+says text t = pick (ltb most_text (length text)) (refused breach 1) (says_from 0 (cut text) (on bytes_due) t)
 
 -- the first refusal, at its call's line; else the rest, by what was told last
 unfoldable pub answer_by : (Told → Ending) → List JobCall → List Made → Told → Ending
@@ -41,7 +37,7 @@ answer_by rest [] ms t = rest t
 answer_by rest (c ∷ cs) [] t = rest t
 answer_by rest (c ∷ cs) (m ∷ ms) t =
     let told = m.left.told in
-    pick (eqb told.number 0) (answer_by rest cs ms told) (Refused told.number c.line)
+    pick (eqb told.number 0) (answer_by rest cs ms told) (refused told.number c.line)
 
 -- ---- what the calls leave
 
@@ -64,8 +60,8 @@ InTurn (m ∷ k ∷ ms) = (m.left.told.number ≡ 0) × InTurn (k ∷ ms)
 
 -- the first three lines have these limits, which are within the job's own
 pub data Asks : List (List ℕ) → Limits → Type 0 where
-  asks : {x y z : List ℕ} {ls : List (List ℕ)} {m : Limits} → limit (codes "bytes=") x ≡ Number.Is m.bytes → limit (codes "objects=") y ≡ Number.Is m.objects
-      → limit (codes "links=") z ≡ Number.Is m.links → holds (in_job m) ≡ true → Asks (x ∷ y ∷ z ∷ ls) m
+  asks : {x y z : List ℕ} {ls : List (List ℕ)} {m : Limits} → limit (codes "bytes=") x ≡ Some m.bytes → limit (codes "objects=") y ≡ Some m.objects
+      → limit (codes "links=") z ≡ Some m.links → holds (in_job m) ≡ true → Asks (x ∷ y ∷ z ∷ ls) m
 
 -- a byte store just as long as asked for; record words and work memory no shorter than needed
 pub record Lent (m : Limits) (s : Stores) (work : List ℕ) : Type 0 where
@@ -77,9 +73,8 @@ pub record Suited (text : List ℕ) (s : Stores) (work : List ℕ) : Type 0 wher
   pub lent : (m : Limits) → Asks (cut text) m → Lent m s work
 
 -- the limits of the first three lines; one that is absent or has none counts as 0
-abbrev value_of : Number → ℕ
-value_of (Number.Is n) = n
-value_of Number.Not = 0
+abbrev value_of : Option ℕ → ℕ
+value_of n = unwrap_or n 0
 
 abbrev pub asked : List (List ℕ) → Limits
 asked ls =

@@ -1,8 +1,6 @@
 -- docs/RULES.md, 12.4 to 12.6: the numbers that a job may tell.
-use Rattle.std.specs.Prelude.{ℕ, List, [], ◌∷◌, Bool, true, false, ◌&&◌, ◌||◌, eqb, ltb}
-use Rattle.job_rules.specs.Job.{most_bytes}
-use Rattle.job_rules.specs.declared.Ending.{Ending}
-use Rattle.job_rules.specs.declared.Ending.TheVariants.{Packed, Refused}
+use Rattle.std.specs.Prelude.{ℕ, List, [], ◌∷◌, Bool, true, false, ◌&&◌, ◌||◌, eqb, ltb, Err, Ok}
+use Rattle.job_rules.specs.Job.{most_bytes, Ending}
 
 unfoldable pub among : List ℕ → ℕ → Bool
 among [] k = false
@@ -14,5 +12,5 @@ abbrev pub may_tell : ℕ → ℕ → Bool
 may_tell room k = among (3 ∷ 4 ∷ 5 ∷ 6 ∷ 7 ∷ 8 ∷ 11 ∷ 13 ∷ 14 ∷ 16 ∷ []) k || (eqb k 10 && ltb room most_bytes)
 
 abbrev pub tells : ℕ → Ending → Bool
-tells room (Packed n k) = true
-tells room (Refused why line) = may_tell room why
+tells room (Ok p) = true
+tells room (Err r) = may_tell room r.number

@@ -11,21 +11,23 @@ use Rattle.lists.specs.Lists.{over}
 use Rattle.lists.proofs.Runs.{over_none}
 use Rattle.job_lines.specs.Lines.{cut}
 use Rattle.job_lines.proofs.Cutting.{cut-first}
-use Rattle.answer.specs.declared.Packing.{Packing}
+use Rattle.answer.specs.Answers.{Packing}
 use Rattle.model.specs.Told.{Told, told_by_pack}
+use Rattle.model.proofs.Verdicts.{refused-number}
 use Rattle.model.specs.Session.{Session, PackLeft, pack}
 use Rattle.layout.specs.Decode.{decode}
-use Rattle.job_calls.specs.declared.line.Lead.{Lead}
+use Rattle.std.specs.Prelude.{Ok, Err, IsErr}
+use Rattle.answer.specs.declared.ObjectId.{ObjectId}
+use Rattle.job_calls.specs.Stops.{number_of}
+use Rattle.job_calls.specs.declared.stop.Stop.{Stop}
 use Rattle.job_calls.specs.declared.line.Lead.TheVariants as Lead
-use Rattle.job_rules.specs.Job.{packs, no_needs, Ended, refused_at, breach, copies_allowed, finished, run}
-use Rattle.job_rules.specs.declared.Ending.{Ending}
-use Rattle.job_rules.specs.declared.Ending.TheVariants.{Packed, Refused}
+use Rattle.job_rules.specs.Job.{packs, no_needs, Ending, packed, refused, Ended, refused_at, breach, copies_allowed, finished, run}
 use Rattle.job_finish.specs.Ends.{Ends, Finishes}
 use Rattle.job_rest.specs.declared.Halt.{Halt}
 use Rattle.job_header.proofs.Lined.{run-stop, run_none, cut-none}
 use Rattle.job_finish.proofs.Packing.{PacksAs}
 
-pub ends-refused : (why n : ℕ) (out : List ℕ) {e : Ended} → e ≡ refused_at why n → Ends e (Refused why n) out out
+pub ends-refused : (why n : ℕ) (out : List ℕ) {e : Ended} → e ≡ refused_at why n → Ends e (refused why n) out out
 ends-refused why n out f = record { ending = sym (ap (λ (x : Ended). x.ending) f); output = sym (over_none 0 out) ∙ ap (λ (x : Ended). over 0 x.table out) (sym f) }
 
 -- ---- the last line is read
@@ -51,10 +53,10 @@ module _ (text : List ℕ) (at line root : ℕ) (b w out : List ℕ) {out' : Lis
   number_is : (told_by_pack r).number ≡ left.told.number
   number_is = ap (λ (x : Told). x.number) q.told
 
-  pub packs-refused : (k : ℕ) → k ≡ (told_by_pack r).number → (k ≡ 0 → ⊥) → Ends end (Refused k line) out out'
+  pub packs-refused : (k : ℕ) → k ≡ (told_by_pack r).number → (k ≡ 0 → ⊥) → Ends end (refused k line) out out'
   packs-refused k e n = record {
     ending =
-        ap (λ (x : ℕ). Refused x line) (e ∙ number_is)
+        ap (λ (x : ℕ). refused x line) (e ∙ number_is)
         ∙ sym (ap (λ (x : Ended). x.ending) end_is ∙ rw (ne_eqb left.told.number 0 (λ z. n (e ∙ number_is ∙ z))));
     output = output;
   }
@@ -63,33 +65,38 @@ module _ (text : List ℕ) (at line root : ℕ) (b w out : List ℕ) {out' : Lis
     zero_is : eqb left.told.number 0 ≡ true
     zero_is = eq-eqb left.told.number 0 (sym number_is ∙ e)
 
-    pub packs-more : at < length text → Ends end (Refused breach (line + 1)) out out'
+    pub packs-more : at < length text → Ends end (refused breach (line + 1)) out out'
     packs-more h = record {
       ending = sym (ap (λ (x : Ended). x.ending) end_is ∙ rw (cut-first (drop at text) (omega (arith, length-drop at text)), zero_is));
       output = output;
     }
 
-    pub packs-done : length text ≤ at → (n c : ℕ) → n ≡ (told_by_pack r).length → c ≡ (told_by_pack r).placed → Ends end (Packed n c) out out'
+    pub packs-done : length text ≤ at → (n c : ℕ) → n ≡ (told_by_pack r).length → c ≡ (told_by_pack r).placed → Ends end (packed n c) out out'
     packs-done h n c f g = record {
       ending =
-          ap (λ (x : ℕ). Packed x c) (f ∙ ap (λ (x : Told). x.length) q.told) ∙ ap (Packed left.told.length) (g ∙ ap (λ (x : Told). x.placed) q.told)
+          ap (λ (x : ℕ). packed x c) (f ∙ ap (λ (x : Told). x.length) q.told) ∙ ap (packed left.told.length) (g ∙ ap (λ (x : Told). x.placed) q.told)
           ∙ sym (ap (λ (x : Ended). x.ending) end_is ∙ rw (drop_of_length-le text h, cut-none, zero_is));
       output = output;
     }
 
+-- what is refused is not done
+pub not_packed : (r : Packing) → IsErr r → (told_by_pack r).number ≡ 0 → ⊥
+not_packed (Err r) v e = omega (arith, refused-number r.why)
+not_packed (Ok p) v e = cc
+
 -- ---- by what the last line led to
 
 module _ (text : List ℕ) {h : Halt} (b w : List ℕ) (out : List ℕ) where
-  pub finish-on : (k : ℕ) → h.lead ≡ Lead.On k → length text ≤ h.at → Finishes text h b w (Refused breach (h.line + 1)) out out
+  pub finish-on : (k : ℕ) → h.lead ≡ Ok (Lead.On k) → length text ≤ h.at → Finishes text h b w (refused breach (h.line + 1)) out out
   finish-on k e f = record {
     ends = λ ids. ends-refused breach (h.line + 1) out (rw (e, drop_of_length-le text f, cut-none) (run_none (length out) h.line _));
   }
 
-  pub finish-stop : (why : ℕ) → h.lead ≡ Lead.Stop why → Finishes text h b w (Refused why h.line) out out
-  finish-stop why e = record { ends = λ ids. ends-refused why h.line out (rw e (run-stop (length out) h.line (cut (drop h.at text)) why)) }
+  pub finish-stop : (s : Stop) → h.lead ≡ Err s → Finishes text h b w (refused (number_of s) h.line) out out
+  finish-stop s e = record { ends = λ ids. ends-refused (number_of s) h.line out (rw e (run-stop (length out) h.line (cut (drop h.at text)) (number_of s))) }
 
-  pub finish-packs : (root : ℕ) → h.lead ≡ Lead.Packs root → {r : Ending} {out' : List ℕ}
-      → Ends (run (length out) h.line (cut (drop h.at text)) (packs (decode b w) root)) r out out' → Finishes text h b w r out out'
+  pub finish-packs : (root : ObjectId) → h.lead ≡ Ok (Lead.Packs root) → {r : Ending} {out' : List ℕ}
+      → Ends (run (length out) h.line (cut (drop h.at text)) (packs (decode b w) root.0)) r out out' → Finishes text h b w r out out'
   finish-packs root e x = record { ends = λ ids. rw e x }
 
 -- the same of a job that comes to the same

@@ -7,7 +7,7 @@ use borrow.Author.Tests.{le-ltb}
 use lib.ListN.{length}
 use Rattle.lists.specs.Lists.{over}
 use Rattle.lists.proofs.Runs.{over_none}
-use Rattle.answer.specs.declared.Packing.{Packing}
+use Rattle.answer.specs.Answers.{Packing}
 use Rattle.model_orders.specs.Copies.{Arrangement, length_of, placed_of}
 use Rattle.model.specs.Judge.{Verdict, accepted, refused, verdict, judge_pack}
 use Rattle.model.specs.Told.{done_pack, refusal, told_by_pack}

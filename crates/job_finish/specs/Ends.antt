@@ -6,8 +6,7 @@ use Rattle.layout.specs.Words.{object_limit, link_limit}
 use Rattle.layout.specs.Sound.{sound}
 use Rattle.work.specs.Areas.{work_need}
 use Rattle.job_calls.specs.Leads.{is_on, meant}
-use Rattle.job_rules.specs.Job.{most_text, copies_allowed, Ended, run}
-use Rattle.job_rules.specs.declared.Ending.{Ending}
+use Rattle.job_rules.specs.Job.{most_text, copies_allowed, Ending, Ended, run}
 use Rattle.job_header.specs.Header.{piece_line}
 use Rattle.job_rest.specs.declared.Halt.{Halt}
 

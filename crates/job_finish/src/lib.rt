@@ -9,9 +9,8 @@ ghost use Rattle.job_finish.specs.Ends.{Ends, Packable, Finishing, Finishes};
 
 use answer::ObjectId;
 use job_calls::line::Lead;
-use job_calls::told::{length_told, placed_told, told_pack};
 use job_rest::Halt;
-use job_rules::{BREACH, Ending};
+use job_rules::{Breach, Packed, Refused};
 use pack::pack_sound;
 
 // No copy is made for a job.
@@ -22,24 +21,27 @@ fn pack_root(
     text: &[u8],
     at: usize,
     line: usize,
-    root: u32,
+    root: ObjectId,
     store: &[u8],
     records: &[u32],
     out: &mut [u8],
     work: &mut [u64],
-) -> Ending
+) -> Result<Packed, Refused>
     requires { Packable line store.now records.now work.old }
-    ensures { Ends (run (length out.old) line (cut (drop at text.now)) (packs (decode store.now records.now) root)) result out.old out.new }
+    ensures { Ends (run (length out.old) line (cut (drop at text.now)) (packs (decode store.now records.now) root.0)) result out.old out.new }
 {
-    let packing = pack_sound(store, records, ObjectId(root), COPIES, out, work);
-    let n = told_pack(packing);
-    if n != 0 {
-        return Ending::Refused(n, line);
-    }
+    let packing = pack_sound(store, records, root, COPIES, out, work);
+    let packed = packing.map_err(|refused| Refused {
+        number: refused.why.into(),
+        line,
+    })?;
     if at < text.len() {
-        return Ending::Refused(BREACH, line + 1);
+        return Err(Breach(line + 1).into());
     }
-    Ending::Packed(length_told(packing), placed_told(packing))
+    Ok(Packed {
+        length: packed.table.length,
+        placed: packed.table.placed,
+    })
 }
 
 pub fn finish(
@@ -49,16 +51,17 @@ pub fn finish(
     records: &[u32],
     out: &mut [u8],
     work: &mut [u64],
-) -> Ending
+) -> Result<Packed, Refused>
     requires { Finishing text.now halt store.now records.now work.old }
     ensures { Finishes text.now halt store.now records.now result out.old out.new }
 {
-    let lead = halt.lead;
-    let at = halt.at;
-    let line = halt.line;
+    let Halt { lead, at, line } = halt;
     match lead {
-        Lead::On(_) => Ending::Refused(BREACH, line + 1),
-        Lead::Stop(why) => Ending::Refused(why, line),
-        Lead::Packs(root) => pack_root(text, at, line, root, store, records, out, work),
+        Ok(Lead::On(_)) => Err(Breach(line + 1).into()),
+        Ok(Lead::Packs(root)) => pack_root(text, at, line, root, store, records, out, work),
+        Err(stop) => Err(Refused {
+            number: stop.into(),
+            line,
+        }),
     }
 }

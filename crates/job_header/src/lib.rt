@@ -5,7 +5,7 @@ ghost use Rattle.job_header.specs.Header.{Reads};
 
 use job_items::limit;
 use job_lines::next_line;
-use text::decimal::Number;
+use job_rules::Breach;
 
 // The number of the third, which starts the session.
 pub const LINKS_LINE: usize = 3;
@@ -17,39 +17,31 @@ pub struct Limits {
     pub links: u32,
 }
 
-// The limits, and the place behind them; or the line that is not the one due.
+// The limits, and the place behind them.
 #[derive(Clone, Copy)]
-pub enum Header {
-    Read(Limits, usize),
-    Breach(usize),
+pub struct Header {
+    pub limits: Limits,
+    pub end: usize,
 }
 
-pub fn read_limits(text: &[u8]) -> Header
+// The three lines in order; else the first that is not the one due.
+pub fn read_limits(text: &[u8]) -> Result<Header, Breach>
     ensures { Reads text.now result }
 {
     let first = next_line(text, 0);
-    let one = limit(b"bytes=", first);
-    let Number::Is(bytes) = one else {
-        return Header::Breach(1);
-    };
+    let bytes = limit(b"bytes=", first).ok_or(Breach(1))?;
     let a = first.len();
     let second = next_line(text, a);
-    let two = limit(b"objects=", second);
-    let Number::Is(objects) = two else {
-        return Header::Breach(2);
-    };
+    let objects = limit(b"objects=", second).ok_or(Breach(2))?;
     let b = a + second.len();
     let third = next_line(text, b);
-    let three = limit(b"links=", third);
-    let Number::Is(links) = three else {
-        return Header::Breach(LINKS_LINE);
-    };
-    Header::Read(
-        Limits {
+    let links = limit(b"links=", third).ok_or(Breach(LINKS_LINE))?;
+    Ok(Header {
+        limits: Limits {
             bytes,
             objects,
             links,
         },
-        b + third.len(),
-    )
+        end: b + third.len(),
+    })
 }

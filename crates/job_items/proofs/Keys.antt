@@ -1,92 +1,77 @@
--- A line's end, its key, its value, and its first comma, as the code looks for them.
-use mathlib.Core.Path.{◌≡◌, refl, sym}
-use Prim.Native.Nat.{ℕ, suc, ◌+◌, ◌-◌, ◌≤◌, ◌<◌}
+-- A line's key and its first comma, as the library's searches tell them, and what the line says by its key.
+use mathlib.Core.Path.{◌≡◌, refl, sym, ap, ◌∙◌}
+use Prim.Native.Nat.{ℕ, suc, ◌+◌, ◌-◌, ◌≤◌}
 use mathlib.Core.List.{List, [], ◌∷◌}
-use mathlib.Core.Bool.{Bool, true, false}
+use mathlib.Core.Bool.{Bool, true, false, cond, ◌&&◌}
 use native.Mathlib.Omega.{arith}
 use native.Mathlib.Numerals.{add-one}
-use lib.Dec.{eqb}
-use lib.ListN.{length, take, drop, get_or, length-drop, drop_of_length-le}
+use lib.Dec.{eqb, ltb}
+use lib.Pointwise.{pointwise}
+use Rattle.std.specs.Prelude.{◌==◌, position}
+use Rattle.std.specs.List.{position_or_len}
+use native.Mathlib.Decide.{ℕ_discrete}
+use Rattle.std.proofs.lemmas.List.Recursion.{is_position_or_len}
+use lib.ListN.{length, take, drop, length-drop, drop_of_length-le}
 use lib.Seq.{take_all}
-use borrow.Author.Tests.{eq-eqb, ne_eqb}
-use Rattle.lists.specs.Lists.{first_that, holds}
-use Rattle.lists.proofs.Runs.{drop-first}
+use borrow.Author.Tests.{eq-eqb, ne_eqb, ltb-false}
+use Rattle.lists.specs.Lists.{pick, first_that, holds}
 use Rattle.text.specs.Decimal.{read_number}
-use Rattle.text.specs.declared.decimal.Number.{Number}
-use Rattle.text.specs.declared.decimal.Number.TheVariants as Number
+use Rattle.std.specs.Prelude.{Option, Some, None}
 use Rattle.job_items.specs.Item.{is_line, starts_with, value, piece_key, link_key, end_key, pairs, comma, piece_item, link_of, link_item, end_item, item}
-use Rattle.job_items.specs.declared.Item.{Item}
-use Rattle.job_items.specs.declared.Item.TheVariants as Item
 
-pub no_line : (l : List ℕ) → length l ≡ 0 → is_line l ≡ false
-no_line [] h = refl
-no_line (c ∷ l) h = absurd (omega arith)
-
--- ---- the key, from place i on
-module _ (i : ℕ) (key line : List ℕ) where
-  abbrev rest : Bool
-  rest = starts_with (drop i key) (drop i line)
-
-  pub starts-all : length key ≤ i → rest ≡ true
-  unfolding starts_with
-  starts-all h = rw (drop_of_length-le key h)
-
-  module _ (h : i < length key) where
-    pub starts-short : length line ≤ i → rest ≡ false
-    unfolding starts_with
-    starts-short k = rw (drop-first i key h, drop_of_length-le line k)
-
-    module _ (k : i < length line) where
-      pub starts-differ : (get_or key i 0 ≡ get_or line i 0 → ⊥) → rest ≡ false
-      unfolding starts_with
-      starts-differ e = rw (drop-first i key h, drop-first i line k, ne_eqb (get_or key i 0) (get_or line i 0) e)
-
-      pub starts-next : get_or key i 0 ≡ get_or line i 0 → starts_with (drop (i + 1) key) (drop (i + 1) line) ≡ rest
-      unfolding starts_with
-      starts-next e = sym (rw (drop-first i key h, drop-first i line k, eq-eqb (get_or key i 0) (get_or line i 0) e))
-
--- ---- the value
-pub value_none : (key l : List ℕ) → length l ≤ length key → value key l ≡ []
-value_none key l h = let z : length l - 1 - length key ≡ 0 = omega arith in rw z
-
--- ---- the first comma
-module _ (i : ℕ) (v : List ℕ) where
-  pub comma-none : length v ≤ i → first_that (eqb comma) (drop i v) ≡ 0
-  unfolding first_that
-  comma-none h = rw (drop_of_length-le v h)
-
-  module _ (h : i < length v) where
-    pub comma-here : get_or v i 0 ≡ comma → first_that (eqb comma) (drop i v) ≡ 0
-    unfolding first_that
-    comma-here e = rw (drop-first i v h, eq-eqb comma (get_or v i 0) (sym e))
-
-    pub comma-next : (get_or v i 0 ≡ comma → ⊥) → first_that (eqb comma) (drop i v) ≡ suc (first_that (eqb comma) (drop (i + 1) v))
-    unfolding first_that
-    comma-next e = rw (drop-first i v h, ne_eqb comma (get_or v i 0) (λ f. e (sym f)))
+-- ---- the key
+pub starts-same : (key l : List ℕ) → pointwise eqb key (take (length key) l) ≡ starts_with key l
+unfolding starts_with
+starts-same [] l = refl
+starts-same (k ∷ ks) [] = refl
+starts-same (k ∷ ks) (c ∷ l) = ap (λ (b : Bool). eqb k c && b) (starts-same ks l)
 
 -- ---- a link's numbers
 
-no_number : (w : Number) → link_of w Number.Not ≡ Item.Breach
-no_number (Number.Is w) = refl
-no_number Number.Not = refl
+no_number : (w : Option ℕ) → link_of w None ≡ None
+no_number (Some w) = refl
+no_number None = refl
 
-pub no-comma : (v : List ℕ) → length v ≤ first_that (eqb comma) v → link_item v ≡ Item.Breach
-unfolding link_item holds
-no-comma v h =
-    let k : length v ≤ suc (first_that (eqb comma) v) = omega arith in
-    rw (drop_of_length-le v k) (no_number (read_number (take (first_that (eqb comma) v) v)))
+-- the place of the first comma, and how many characters stand before it
+abbrev commas : List ℕ → Option ℕ
+commas v = position (λ c. c == comma) v
 
-pub comma-parts : (v : List ℕ) (k : ℕ) → k ≡ first_that (eqb comma) v → link_of (read_number (take (k - 0) (drop 0 v))) (read_number (take (length v - (k + 1)) (drop (k + 1) v))) ≡ link_item v
-unfolding link_item
-comma-parts v k e =
-    let a : k - 0 ≡ k = omega arith in
-    let b : take (length v - (k + 1)) (drop (k + 1) v) ≡ drop (k + 1) v = take_all (length v - (k + 1)) (drop (k + 1) v) (omega (arith, length-drop (k + 1) v)) in
-    rw (a, b, add-one k, e)
+comma-place : (v : List ℕ) → first_that (eqb comma) v ≡ position_or_len (λ c. c == comma) v
+unfolding first_that
+comma-place = is_position_or_len (first_that (eqb comma)) (λ c. c == comma) refl (λ x xs. by x (first_that (eqb comma) xs) (ℕ_discrete x comma))
+  where
+    by : (x n : ℕ) → Dec (x ≡ comma) → pick (eqb comma x) 0 (suc n) ≡ cond (eqb x comma) 0 (1 + n)
+    by x n (yes e) = rw (eq-eqb comma x (sym e), eq-eqb x comma e)
+    by x n (no e) = rw (ne_eqb comma x (λ f. e (sym f)), ne_eqb x comma e) (omega arith)
+
+module _ (v : List ℕ) where
+  pub no-comma : None ≡ commas v → None ≡ link_item v
+  unfolding link_item holds
+  no-comma e = by (ltb (position_or_len (λ c. c == comma) v) (length v)) refl e
+    where
+      by : (t : Bool) → ltb (position_or_len (λ c. c == comma) v) (length v) ≡ t → None ≡ cond t (Some (position_or_len (λ c. c == comma) v)) None → None ≡ link_item v
+      by true f g = cc
+      by false f g =
+          let k : length v ≤ suc (first_that (eqb comma) v) = omega (arith, ltb-false _ _ f, comma-place v) in
+          rw (drop_of_length-le v k) (sym (no_number (read_number (take (first_that (eqb comma) v) v))))
+
+  pub comma-is : (k : ℕ) → Some k ≡ commas v → k ≡ first_that (eqb comma) v
+  comma-is k e = by (ltb (position_or_len (λ c. c == comma) v) (length v)) e ∙ sym (comma-place v)
+    where
+      by : (t : Bool) → Some k ≡ cond t (Some (position_or_len (λ c. c == comma) v)) None → k ≡ position_or_len (λ c. c == comma) v
+      by true g = cc
+      by false g = cc
+
+  pub comma-parts : (k : ℕ) → Some k ≡ commas v → link_of (read_number (take k v)) (read_number (take (length v - (k + 1)) (drop (k + 1) v))) ≡ link_item v
+  unfolding link_item
+  comma-parts k e =
+      let b : take (length v - (k + 1)) (drop (k + 1) v) ≡ drop (k + 1) v = take_all (length v - (k + 1)) (drop (k + 1) v) (omega (arith, length-drop (k + 1) v)) in
+      rw (b, add-one k, comma-is k e)
 
 -- ---- what a line says, by its key
 
 module _ (l : List ℕ) where
-  pub no_item : is_line l ≡ false → item l ≡ Item.Breach
+  pub no_item : is_line l ≡ false → item l ≡ None
   unfolding item
   no_item e = rw e
 
@@ -105,6 +90,6 @@ module _ (l : List ℕ) where
         unfolding item
         item-end n = rw (e, p, k, n)
 
-        pub item-other : starts_with end_key l ≡ false → item l ≡ Item.Breach
+        pub item-other : starts_with end_key l ≡ false → item l ≡ None
         unfolding item
         item-other n = rw (e, p, k, n)

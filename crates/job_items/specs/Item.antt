@@ -1,15 +1,12 @@
 -- docs/RULES.md, 12.1 to 12.3: what a line says by itself.
-use Rattle.std.specs.Prelude.{ℕ, suc, ◌-◌, ◌%◌, List, [], ◌∷◌, Bool, true, false, ◌&&◌, eqb, length, take, drop, get_or}
+use Rattle.std.specs.Prelude.{ℕ, suc, ◌-◌, ◌%◌, List, [], ◌∷◌, Bool, true, false, ◌&&◌, eqb, length, take, drop, get_or, Option, Some, None}
 use Prim.Native.String.{String, [] as none, ◌∷◌ as first}
 use Prim.Native.Char.{code}
 use Rattle.lists.specs.Lists.{pick, first_that}
 use Rattle.job_lines.specs.Lines.{line_feed}
 use Rattle.text.specs.Digits.{all_digits}
 use Rattle.text.specs.Decimal.{read_number}
-use Rattle.text.specs.declared.decimal.Number.{Number}
-use Rattle.text.specs.declared.decimal.Number.TheVariants as Number
 use Rattle.job_items.specs.declared.Item.{Item}
-use Rattle.job_items.specs.declared.Item.TheVariants as Item
 
 -- the characters of a text
 unfoldable pub codes : String → List ℕ
@@ -32,8 +29,8 @@ value key l = take (length l - 1 - length key) (drop (length key) l)
 
 -- ---- the three limits: the number behind its key
 
-unfoldable pub limit : List ℕ → List ℕ → Number
-limit key l = pick (is_line l && starts_with key l) (read_number (value key l)) Number.Not
+unfoldable pub limit : List ℕ → List ℕ → Option ℕ
+limit key l = pick (is_line l && starts_with key l) (read_number (value key l)) None
 
 -- ---- the lines behind the limits
 
@@ -58,39 +55,33 @@ pairs l = value piece_key l
 abbrev pub is_hex : List ℕ → Bool
 is_hex v = eqb (length v % 2) 0 && all_digits 16 v
 
-unfoldable pub piece_item : List ℕ → Item
-piece_item v = pick (is_hex v) Item.Piece Item.Breach
+unfoldable pub piece_item : List ℕ → Option Item
+piece_item v = pick (is_hex v) (Some Item.Piece) None
 
 abbrev pub comma : ℕ
 comma = 44
 
-abbrev pub link_of : Number → Number → Item
-link_of (Number.Is w) (Number.Is i) = Item.Link w i
-link_of (Number.Is w) Number.Not = Item.Breach
-link_of Number.Not i = Item.Breach
+abbrev pub link_of : Option ℕ → Option ℕ → Option Item
+link_of (Some w) (Some i) = Some (Item.Link w i)
+link_of (Some w) None = None
+link_of None i = None
 
 -- the numbers before and behind the first comma
-unfoldable pub link_item : List ℕ → Item
+unfoldable pub link_item : List ℕ → Option Item
 link_item v = let k = first_that (eqb comma) v in link_of (read_number (take k v)) (read_number (drop (suc k) v))
 
-abbrev pub end_of : Number → Item
-end_of (Number.Is n) = Item.End n
-end_of Number.Not = Item.Breach
+abbrev pub end_of : Option ℕ → Option Item
+end_of (Some n) = Some (Item.End n)
+end_of None = None
 
-unfoldable pub end_item : List ℕ → Item
+unfoldable pub end_item : List ℕ → Option Item
 end_item v = end_of (read_number v)
 
-abbrev pub keyed : List ℕ → Item
+abbrev pub keyed : List ℕ → Option Item
 keyed l =
     pick (starts_with piece_key l) (piece_item (pairs l))
     (pick (starts_with link_key l) (link_item (value link_key l))
-    (pick (starts_with end_key l) (end_item (value end_key l)) Item.Breach))
+    (pick (starts_with end_key l) (end_item (value end_key l)) None))
 
-unfoldable pub item : List ℕ → Item
-item l = pick (is_line l) (keyed l) Item.Breach
-
-abbrev pub is_piece : Item → Bool
-is_piece Item.Piece = true
-is_piece (Item.Link w i) = false
-is_piece (Item.End n) = false
-is_piece Item.Breach = false
+unfoldable pub item : List ℕ → Option Item
+item l = pick (is_line l) (keyed l) None

@@ -1,14 +1,13 @@
 // A line of a job, taken apart: `key=value` and a line feed.
 //
-// No function asks anything of its caller: any bytes are a line that says something, or a breach.
+// No function asks anything of its caller: any bytes are a line that says something, or a breach, which is None.
 #![tactic(auto)]
 
-ghost use Rattle.std.specs.Prelude.{◌≡◌, eqb};
-ghost use Rattle.lists.specs.Lists.{first_that};
-ghost use Rattle.job_items.specs.Item.{is_line, starts_with, value, limit, pairs, piece_item, comma, link_of, link_item, end_of, end_item, item, is_piece};
+ghost use Rattle.std.specs.Prelude.{◌≡◌, ◌==◌, position};
+ghost use Rattle.job_items.specs.Item.{is_line, value, limit, pairs, piece_item, comma, link_item, end_item, item};
 
 use job_lines::LINE_FEED;
-use text::decimal::{Number, read_number};
+use text::decimal::read_number;
 use text::digits::{HEX, all_digits};
 
 // How long a piece line is at the least.
@@ -21,61 +20,39 @@ const LINK: [u8; 5] = *b"link=";
 const END: [u8; 4] = *b"end=";
 
 // What the lines behind the limits say.
-#[derive(Clone, Copy)]
+#[derive(Clone, Copy, PartialEq, Eq)]
 pub enum Item {
     Piece,
     Link(u32, u32),
     End(u32),
-    Breach,
 }
 
 fn is_line(line: &[u8]) -> bool
     ensures { result ≡ is_line line.now }
 {
-    let n = line.len();
-    if n == 0 {
-        return false;
+    match line {
+        [.., last] => *last == LINE_FEED,
+        [] => false,
     }
-    line[n - 1] == LINE_FEED
-}
-
-fn starts_with(key: &[u8], line: &[u8]) -> bool
-    ensures { result ≡ starts_with key.now line.now }
-{
-    let mut i = 0;
-    while i < key.len() {
-        if line.len() <= i {
-            return false;
-        }
-        if key[i] != line[i] {
-            return false;
-        }
-        i += 1;
-    }
-    true
 }
 
 // What stands between a key and the line feed.
 fn value<'a>(key: &[u8], line: &'a [u8]) -> &'a [u8]
     ensures { result.now ≡ value key.now line.now }
 {
-    let n = key.len();
-    if line.len() <= n {
-        return &line[0..0];
-    }
-    let end = line.len() - 1;
-    &line[n..end]
+    let end = line.len().saturating_sub(1);
+    line.get(key.len()..end).unwrap_or(&[])
 }
 
-// The number behind a key, if the line has that key.
-pub fn limit(key: &[u8], line: &[u8]) -> Number
+// The number behind a key, if the line has that key and a number there.
+pub fn limit(key: &[u8], line: &[u8]) -> Option<u32>
     ensures { result ≡ limit key.now line.now }
 {
     if !is_line(line) {
-        return Number::Not;
+        return None;
     }
-    if !starts_with(key, line) {
-        return Number::Not;
+    if !line.starts_with(key) {
+        return None;
     }
     read_number(value(key, line))
 }
@@ -87,95 +64,56 @@ pub fn pairs(line: &[u8]) -> &[u8]
     value(&PIECE, line)
 }
 
-fn piece_item(v: &[u8]) -> Item
+fn piece_item(v: &[u8]) -> Option<Item>
     ensures { result ≡ piece_item v.now }
 {
     if v.len() % 2 != 0 {
-        return Item::Breach;
+        return None;
     }
     if !all_digits(v, HEX) {
-        return Item::Breach;
+        return None;
     }
-    Item::Piece
+    Some(Item::Piece)
 }
 
-// Where the first comma stands; the end where there is none.
-fn comma(v: &[u8]) -> usize
-    ensures { result ≡ first_that (eqb comma) v.now }
+// Where the first comma stands.
+fn comma(v: &[u8]) -> Option<usize>
+    ensures { result ≡ position (λ c. c == comma) v.now }
 {
-    let mut i = 0;
-    while i < v.len() {
-        if v[i] == b',' {
-            return i;
-        }
-        i += 1;
-    }
-    i
+    v.iter().position(|c| *c == b',')
 }
 
-fn link_of(width: Number, number: Number) -> Item
-    ensures { result ≡ link_of width number }
-{
-    match width {
-        Number::Is(w) => match number {
-            Number::Is(i) => Item::Link(w, i),
-            Number::Not => Item::Breach,
-        },
-        Number::Not => Item::Breach,
-    }
-}
-
-fn link_item(v: &[u8]) -> Item
+// The numbers before and behind the first comma.
+fn link_item(v: &[u8]) -> Option<Item>
     ensures { result ≡ link_item v.now }
 {
-    let k = comma(v);
-    if v.len() <= k {
-        return Item::Breach;
-    }
-    link_of(read_number(&v[0..k]), read_number(&v[k + 1..]))
+    let k = comma(v)?;
+    let width = read_number(&v[..k])?;
+    let number = read_number(&v[k + 1..])?;
+    Some(Item::Link(width, number))
 }
 
-fn end_of(count: Number) -> Item
-    ensures { result ≡ end_of count }
-{
-    match count {
-        Number::Is(n) => Item::End(n),
-        Number::Not => Item::Breach,
-    }
-}
-
-fn end_item(v: &[u8]) -> Item
+fn end_item(v: &[u8]) -> Option<Item>
     ensures { result ≡ end_item v.now }
 {
-    end_of(read_number(v))
+    read_number(v).map(Item::End)
 }
 
-// What a line behind the limits says.
-pub fn item_of(line: &[u8]) -> Item
+// What a line behind the limits says; None where it is a breach.
+pub fn item_of(line: &[u8]) -> Option<Item>
     ensures { result ≡ item line.now }
 {
     if !is_line(line) {
-        return Item::Breach;
+        return None;
     }
-    if starts_with(&PIECE, line) {
+    if line.starts_with(&PIECE) {
         return piece_item(pairs(line));
     }
-    if starts_with(&LINK, line) {
+    if line.starts_with(&LINK) {
         return link_item(value(&LINK, line));
     }
-    if starts_with(&END, line) {
+    if line.starts_with(&END) {
         return end_item(value(&END, line));
     }
-    Item::Breach
-}
-
-pub fn is_piece(it: Item) -> bool
-    ensures { result ≡ is_piece it }
-{
-    match it {
-        Item::Piece => true,
-        Item::Link(_, _) => false,
-        Item::End(_) => false,
-        Item::Breach => false,
-    }
+    None
 }

@@ -8,7 +8,8 @@ ghost use Rattle.job_rules.specs.Job.{most_text, on, piece_due, writing};
 ghost use Rattle.job_header.specs.Header.{links_line, piece_line};
 ghost use Rattle.job_rest.specs.Halts.{most_pieces, Halts};
 
-use job_calls::line::{Lead, count_of, first_line, is_on, later_line};
+use job_calls::line::{Lead, first_line, goes_on, later_line};
+use job_calls::stop::Stop;
 use job_header::LINKS_LINE;
 use job_lines::next_line;
 
@@ -18,7 +19,7 @@ const PIECE_LINE: usize = LINKS_LINE + 1;
 // What the last line that was read leads to, the place behind it, and its number.
 #[derive(Clone, Copy)]
 pub struct Halt {
-    pub lead: Lead,
+    pub lead: Result<Lead, Stop>,
     pub at: usize,
     pub line: usize,
 }
@@ -43,13 +44,13 @@ fn run_rest(
         let lead = later_line(part, count, store, records, ids, space);
         at += part.len();
         line += 1;
-        if !is_on(lead) {
+        let Some(n) = goes_on(lead) else {
             return Halt { lead, at, line };
-        }
-        count = count_of(lead);
+        };
+        count = n;
     }
     Halt {
-        lead: Lead::On(count),
+        lead: Ok(Lead::On(count)),
         at,
         line,
     }
@@ -70,12 +71,12 @@ pub fn run_pieces(
     let part = next_line(text, from);
     let lead = first_line(part, store, records, space);
     let at = from + part.len();
-    if !is_on(lead) {
+    let Some(_) = goes_on(lead) else {
         return Halt {
             lead,
             at,
             line: PIECE_LINE,
         };
-    }
+    };
     run_rest(text, at, store, records, ids, space)
 }

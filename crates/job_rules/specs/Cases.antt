@@ -1,11 +1,9 @@
 -- docs/RULES.md, section 12: jobs that are packed, and jobs that are refused.
-use Rattle.std.specs.Prelude.{ℕ, List, [], ◌∷◌, Bool, true, false, ◌&&◌, eqb}
+use Rattle.std.specs.Prelude.{ℕ, List, [], ◌∷◌, Bool, true, false, ◌&&◌, eqb, Ok, Err}
 use Prim.Native.String.{String}
 use Rattle.lists.specs.Lists.{same_list}
 use Rattle.job_items.specs.Item.{codes}
-use Rattle.job_rules.specs.Job.{job, most_bytes}
-use Rattle.job_rules.specs.declared.Ending.{Ending}
-use Rattle.job_rules.specs.declared.Ending.TheVariants.{Packed, Refused}
+use Rattle.job_rules.specs.Job.{Ending, packed, refused, job, most_bytes}
 
 -- a job's text, its answer, and the table
 pub record Case : Type 0 where
@@ -14,10 +12,10 @@ pub record Case : Type 0 where
   pub table : List ℕ
 
 abbrev same : Ending → Ending → Bool
-same (Packed n k) (Packed m j) = eqb n m && eqb k j
-same (Packed n k) (Refused why line) = false
-same (Refused why line) (Packed n k) = false
-same (Refused why line) (Refused other at) = eqb why other && eqb line at
+same (Ok p) (Ok q) = eqb p.length q.length && eqb p.placed q.placed
+same (Ok p) (Err r) = false
+same (Err r) (Ok p) = false
+same (Err r) (Err q) = eqb r.number q.number && eqb r.line q.line
 
 abbrev right : Case → Bool
 right c = let e = job most_bytes (codes c.text) in same e.ending c.ending && same_list eqb e.table c.table
@@ -27,10 +25,10 @@ all_right [] = true
 all_right (c ∷ cs) = right c && all_right cs
 
 abbrev packs : String → ℕ → ℕ → List ℕ → Case
-packs text n k table = record { text = text; ending = Packed n k; table = table }
+packs text n k table = record { text = text; ending = packed n k; table = table }
 
 abbrev refuses : String → ℕ → ℕ → List ℕ → Case
-refuses text why line table = record { text = text; ending = Refused why line; table = table }
+refuses text why line table = record { text = text; ending = refused why line; table = table }
 
 abbrev pub cases : List Case
 cases =

@@ -1,10 +1,8 @@
 -- docs/RULES.md, section 12: what a job comes to, by its text and the room of the output alone. What a line says by itself (12.3) is job_items' Item.
-use Rattle.std.specs.Prelude.{ℕ, suc, ◌+◌, List, [], ◌∷◌, ◌++◌, Bool, eqb, leb, ltb, length, get_or}
+use Rattle.std.specs.Prelude.{ℕ, suc, ◌+◌, List, [], ◌∷◌, ◌++◌, Bool, eqb, leb, ltb, length, get_or, Option, Some, None, Result, Ok, Err}
 use Rattle.lists.specs.Lists.{pick, holds}
 use Rattle.job_lines.specs.Lines.{cut}
 use Rattle.text_hex.specs.Hex.{bytes_of}
-use Rattle.text.specs.declared.decimal.Number.{Number}
-use Rattle.text.specs.declared.decimal.Number.TheVariants as Number
 use Rattle.answer.specs.Number.{number}
 use Rattle.answer.specs.declared.Refusal.TheVariants.{OutOfRange}
 use Rattle.model.specs.Judge.{Limits}
@@ -13,8 +11,8 @@ use Rattle.model.specs.Session.{Needs, Session, started, SessionCall, start_call
 use Rattle.job_items.specs.Item.{codes, limit, pairs, item}
 use Rattle.job_items.specs.declared.Item.{Item}
 use Rattle.job_items.specs.declared.Item.TheVariants as Item
-use Rattle.job_rules.specs.declared.Ending.{Ending}
-use Rattle.job_rules.specs.declared.Ending.TheVariants.{Packed, Refused}
+use Rattle.job_rules.specs.declared.Packed.{Packed}
+use Rattle.job_rules.specs.declared.Refused.{Refused}
 
 -- ---- 12.1: the text
 
@@ -73,9 +71,9 @@ starts m = pick (holds (in_job m)) (call (start_call m 0) (started m) (λ l. on 
 abbrev pub breach : ℕ
 breach = 14
 
-abbrev pub given : Number → (ℕ → Turn) → Turn
-given (Number.Is n) next = next n
-given Number.Not next = stop breach
+abbrev pub given : Option ℕ → (ℕ → Turn) → Turn
+given (Some n) next = next n
+given None next = stop breach
 
 -- ---- 12.6: the calls of a line, once its layout is judged
 
@@ -104,17 +102,17 @@ link_turn w i s ids = call (link_call w (child_at ids i) inner_start) s (λ k. o
 abbrev pub end_turn : ℕ → Session → List ℕ → Turn
 end_turn n s ids = pick (eqb n (suc (length ids))) (call close_call s (λ c. packs c.after c.told.id)) (stop breach)
 
-abbrev pub first_item : Item → List ℕ → Session → Turn
-first_item Item.Piece l s = writes (bytes_of (pairs l)) [] s
-first_item (Item.Link w i) l s = stop breach
-first_item (Item.End n) l s = stop breach
-first_item Item.Breach l s = stop breach
+abbrev pub first_item : Option Item → List ℕ → Session → Turn
+first_item (Some Item.Piece) l s = writes (bytes_of (pairs l)) [] s
+first_item (Some (Item.Link w i)) l s = stop breach
+first_item (Some (Item.End n)) l s = stop breach
+first_item None l s = stop breach
 
-abbrev pub next_item : Item → List ℕ → Session → List ℕ → Turn
-next_item Item.Piece l s ids = piece_turn (bytes_of (pairs l)) s ids
-next_item (Item.Link w i) l s ids = link_turn w i s ids
-next_item (Item.End n) l s ids = end_turn n s ids
-next_item Item.Breach l s ids = stop breach
+abbrev pub next_item : Option Item → List ℕ → Session → List ℕ → Turn
+next_item (Some Item.Piece) l s ids = piece_turn (bytes_of (pairs l)) s ids
+next_item (Some (Item.Link w i)) l s ids = link_turn w i s ids
+next_item (Some (Item.End n)) l s ids = end_turn n s ids
+next_item None l s ids = stop breach
 
 unfoldable pub turn : List ℕ → Stage → Turn
 turn l bytes_due = given (limit (codes "bytes=") l) (λ b. on (objects_due b))
@@ -125,21 +123,34 @@ turn l (writing s ids) = next_item (item l) l s ids
 
 -- ---- 12.7: what is told, and of which line
 
+-- the table's length and how many objects are in it; or a refusal's number, and the line that it is told of
+abbrev pub Ending : Type 0
+Ending = Result Packed Refused
+
+abbrev pub packed : ℕ → ℕ → Ending
+packed n k = Ok (record { length = n; placed = k })
+
+abbrev pub refusal : ℕ → ℕ → Refused
+refusal why n = record { number = why; line = n }
+
+abbrev pub refused : ℕ → ℕ → Ending
+refused why n = Err (refusal why n)
+
 -- the answer, and the table that the output has in front; none where there is no packing
 pub record Ended : Type 0 where
   pub ending : Ending
   pub table : List ℕ
 
 abbrev pub refused_at : ℕ → ℕ → Ended
-refused_at why line = record { ending = Refused why line; table = [] }
+refused_at why line = record { ending = refused why line; table = [] }
 
 -- line n had an accepted packing, and these lines are left
 abbrev pub behind_end : ℕ → List (List ℕ) → Told → Ending
-behind_end n [] t = Packed t.length t.placed
-behind_end n (l ∷ ls) t = Refused breach (n + 1)
+behind_end n [] t = packed t.length t.placed
+behind_end n (l ∷ ls) t = refused breach (n + 1)
 
 abbrev pub finished : ℕ → List (List ℕ) → PackLeft → Ended
-finished n ls p = record { ending = pick (eqb p.told.number 0) (behind_end n ls p.told) (Refused p.told.number n); table = p.table }
+finished n ls p = record { ending = pick (eqb p.told.number 0) (behind_end n ls p.told) (refused p.told.number n); table = p.table }
 
 -- line n led to a turn, and these lines are left; the output has room for so many bytes
 abbrev pub after : ℕ → ℕ → List (List ℕ) → Turn → (Stage → Ended) → Ended

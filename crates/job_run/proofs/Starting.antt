@@ -1,4 +1,6 @@
 -- A session started with a job's limits, in memory that is enough for any job.
+use Rattle.std.specs.Prelude.{Ok, Err, IsErr}
+use Rattle.answer.specs.Answers.{Answer}
 use mathlib.Core.Path.{◌≡◌, refl, sym, ap, subst, ◌∙◌}
 use Prim.Native.Nat.{ℕ, ◌≤◌}
 use mathlib.Core.List.{List}
@@ -8,9 +10,8 @@ use lib.ListN.{length, replicate}
 use borrow.Author.Tests.{ne_eqb, le-leb}
 use Rattle.lists.specs.Lists.{holds}
 use Rattle.answer.specs.Number.{number, no_tally}
-use Rattle.answer.specs.declared.Answer.TheVariants.{Done}
 use Rattle.model.specs.Judge.{Limits, Verdict, accepted, refused, verdict, number_of, judge_start}
-use Rattle.model.specs.Told.{Told}
+use Rattle.model.specs.Told.{Told, told_by}
 use Rattle.model.specs.Session.{Session, started, leaves, Left, settle_call, step}
 use Rattle.model.proofs.Verdicts.{refused-number}
 use Rattle.layout.specs.Words.{need, limits_in}
@@ -26,6 +27,11 @@ use Rattle.job_rules.specs.Job.{Turn, on, stop, piece_due, accepted as accepted_
 -- a limit above a job's
 pub limit-above : (m : Limits) → holds (in_job m) ≡ false → starts m ≡ stop out_of_range
 limit-above m e = rw e
+
+-- what is refused is not done
+pub not_started : (r : Answer) → IsErr r → (told_by r).number ≡ 0 → ⊥
+not_started (Err r) v e = omega (arith, refused-number r.why)
+not_started (Ok t) v e = cc
 
 -- the stores hold a session just started with these limits
 pub record Started (m : Limits) (b w : List ℕ) : Type 0 where
@@ -52,7 +58,7 @@ module _ (o l : ℕ) (b w : List ℕ) (fits : need o l ≤ length w) (k : holds 
   unfolding step
   starts_by v f = rw k (ap (λ (x : Verdict). accepted_by (settle_call x (started m) (leaves (started m))) next) (same-verdict ∙ f))
 
-  number-of : (v : Verdict) → (left_by (settle_step v b w (outcome (Done no_tally) (replicate (length b) 0) (start_words m w)))).told.number ≡ number_of v
+  number-of : (v : Verdict) → (left_by (settle_step v b w (outcome (Ok no_tally) (replicate (length b) 0) (start_words m w)))).told.number ≡ number_of v
   number-of accepted = refl
   number-of (refused why) = refl
 

@@ -2,7 +2,6 @@
 use Rattle.job_rest.proofs.Going.{first-halts, first_rest}
 use Rattle.job_header.proofs.Lined.{part-inside, part-short}
 use native.Mathlib.Omega.{arith}
-use mathlib.Core.Path.{sym, ◌∙◌}
 use borrow.Author.Rules.{rules}
 use Rattle.job_rest.proofs.run_pieces.Goals as goal
 
@@ -20,14 +19,9 @@ overflow_add-at c =
     let next-line = c.next_line-part in
     rw next-line.ensures (omega (arith, part-inside args.text.now args.from pre.2))
 
-pub returns-then-not-is_on : goal.returns-then-not-is_on
-returns-then-not-is_on c =
-    let args = c.args in
-    let pre = c.requires in
-    let next-line = c.next_line-part in
-    let first-line = c.first_line-lead in
-    let is-on = c.is_on in
-    first-halts args.text.now args.from _ _ next-line.ensures pre.2 (first-line.ensures args.ids.now) (sym is-on.ensures ∙ c.if-not-is_on.true) (omega arith)
+pub returns-in_default : goal.returns-in_default
+returns-in_default c =
+    first-halts c.args.text.now c.args.from _ _ c.next_line-part.ensures c.requires.2 (c.first_line-lead.ensures c.args.ids.now) c.in_default.ensures (omega arith)
 
 pub run_rest-requires : goal.run_rest-requires
 run_rest-requires c =
@@ -39,11 +33,4 @@ run_rest-requires c =
 
 pub returns : goal.returns
 returns c =
-    let args = c.args in
-    let pre = c.requires in
-    let next-line = c.next_line-part in
-    let first-line = c.first_line-lead in
-    let is-on = c.is_on in
-    let if1 = c.if-not-is_on in
-    let run-rest = c.run_rest in
-    first_rest args.text.now args.from _ _ next-line.ensures pre.2 (first-line.ensures args.ids.now) (sym is-on.ensures ∙ if1.false) run-rest.ensures
+    first_rest c.args.text.now c.args.from _ _ c.next_line-part.ensures c.requires.2 (c.first_line-lead.ensures c.args.ids.now) c.in-Some.ensures c.run_rest.ensures

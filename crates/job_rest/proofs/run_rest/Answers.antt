@@ -2,7 +2,6 @@
 use Rattle.job_rest.proofs.Going.{going-none, going-over, going-halts, going_next}
 use Rattle.job_header.proofs.Lined.{part-inside, part-some, part-short}
 use native.Mathlib.Omega.{arith}
-use mathlib.Core.Path.{refl, sym, ◌∙◌}
 use borrow.Author.Rules.{rules}
 use Rattle.job_rest.proofs.run_rest.Goals as goal
 
@@ -10,34 +9,29 @@ pub loop-at-init : goal.loop-at-init
 loop-at-init c =
     let args = c.args in
     let pre = c.requires in
-    (refl, refl, refl, refl, going-none args.text.now args.from _ _ _ pre.0 (search rules))
+    going-none args.text.now args.from _ _ _ pre.0 (search rules)
 
 pub later_line-lead-requires : goal.later_line-lead-requires
 later_line-lead-requires c =
     let args = c.args in
     let loop = c.loop-at in
     let next-line = c.next_line-part in
-    (loop.invariant.4.is_sound, rw next-line.ensures (omega (arith, part-short args.text.now loop.at, loop.invariant.3)), omega (arith, loop.invariant.4.few, loop.invariant.4.inside, loop.invariant.2))
+    (loop.invariant.is_sound, rw next-line.ensures (omega (arith, part-short args.text.now loop.at)), omega (arith, loop.invariant.few, loop.invariant.inside))
 
 pub overflow_add-at : goal.overflow_add-at
 overflow_add-at c =
     let args = c.args in
     let loop = c.loop-at in
     let next-line = c.next_line-part in
-    rw next-line.ensures (omega (arith, part-inside args.text.now loop.at loop.invariant.4.inside))
+    rw next-line.ensures (omega (arith, part-inside args.text.now loop.at loop.invariant.inside))
 
 pub overflow_add-line : goal.overflow_add-line
 overflow_add-line c =
     let loop = c.loop-at in
-    omega (arith, loop.invariant.4.short, loop.invariant.4.inside)
+    omega (arith, loop.invariant.short, loop.invariant.inside)
 
-pub returns-then-not-is_on : goal.returns-then-not-is_on
-returns-then-not-is_on c =
-    let loop = c.loop-at in
-    let next-line = c.next_line-part in
-    let later-line = c.later_line-lead in
-    let is-on = c.is_on in
-    going-halts loop.invariant.4 next-line.ensures (omega arith) later-line.ensures.1 (sym is-on.ensures ∙ c.if-not-is_on.true)
+pub returns-in_default : goal.returns-in_default
+returns-in_default c = going-halts c.loop-at.invariant c.next_line-part.ensures (omega arith) c.later_line-lead.ensures.1 c.in_default.ensures
 
 pub loop-at-smaller : goal.loop-at-smaller
 loop-at-smaller c =
@@ -51,9 +45,7 @@ loop-at-preserved c =
     let loop = c.loop-at in
     let next-line = c.next_line-part in
     let later-line = c.later_line-lead in
-    let is-on = c.is_on in
-    let if1 = c.if-not-is_on in
-    (search rules, search rules, search rules, search rules, going_next loop.invariant.4 next-line.ensures (omega arith) later-line.ensures.1 (sym is-on.ensures ∙ if1.false) later-line.ensures.0 _ c.count_of-count.ensures)
+    going_next loop.invariant next-line.ensures (omega arith) later-line.ensures.1 c.in-Some.ensures later-line.ensures.0
 
 pub returns : goal.returns
-returns c = going-over c.loop-at.invariant.4 (omega arith)
+returns c = going-over c.loop-at.invariant (omega arith)

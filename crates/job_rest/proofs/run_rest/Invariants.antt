@@ -5,13 +5,11 @@ use Rattle.layout.specs.Decode.{decode}
 use lib.ListN.{length}
 use mathlib.Core.List.{[]}
 use Prim.Native.Nat.{◌-◌}
-use mathlib.Core.Path.{◌≡◌}
 use Rattle.job_rest.proofs.run_rest.Given as goal
 
 abbrev pub invariant-loop-at : goal.invariant-loop-at
 invariant-loop-at l =
-    (length l.store ≡ length l.initial.store) × (length l.records ≡ length l.initial.records) × (length l.ids ≡ length l.initial.ids) × (length l.space ≡ length l.initial.space)
-    × Going l.text l.from (on (writing (decode l.initial.store l.initial.records) [])) l.initial.records l.at l.line l.count l.store l.records l.ids
+    Going l.text l.from (on (writing (decode l.initial.store l.initial.records) [])) l.initial.records l.at l.line l.count l.store l.records l.ids
 
 abbrev pub decreases-loop-at : goal.decreases-loop-at
 decreases-loop-at l =

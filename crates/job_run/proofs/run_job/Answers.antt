@@ -3,7 +3,7 @@ use Rattle.job_run.proofs.Whole.{job-long, job-run}
 use Rattle.job_run.proofs.run_job.Goals as goal
 
 pub returns-then-text-gt-MOST_TEXT : goal.returns-then-text-gt-MOST_TEXT
-returns-then-text-gt-MOST_TEXT c = let e = job-long c.args.text.now _ c.if-text-gt-MOST_TEXT.true in (e.ending, e.output)
+returns-then-text-gt-MOST_TEXT c = let e = job-long c.args.text.now _ c.if-text-gt-MOST_TEXT.true in (rw c.into.ensures e.ending, e.output)
 
 pub returns : goal.returns
 returns c =

@@ -1,41 +1,27 @@
 -- A close, and where that is accepted the next object written, with one id more known.
+use mathlib.Core.Path.{◌≡◌, refl}
+use borrow.Author.Rules.{rules}
+use Rattle.std.specs.Prelude.{Err}
+use Rattle.job_calls.specs.declared.stop.Stop.TheVariants.{Call}
 use Rattle.job_calls.proofs.Turning.{piece-not, piece-stops, piece-goes}
 use Rattle.job_calls.proofs.Calls.{close-after}
-use mathlib.Core.Path.{sym, ◌∙◌}
-use borrow.Author.Rules.{rules}
 use Rattle.job_calls.proofs.line.piece_line.Goals as goal
 
-pub returns-then-n-ne0 : goal.returns-then-n-ne0
-returns-then-n-ne0 c =
-    let args = c.args in
-    let pre = c.requires in
-    let close-sound = c.close_sound-closed in
-    let told-close = c.told_close-n in
-    rw told-close.ensures (piece-not _ args.ids.now args.count (close-after _ _ pre.0 close-sound.ensures) _ (λ z. c.if-n-ne0.true (told-close.ensures ∙ z)))
+pub returns-in_err-closed : goal.returns-in_err-closed
+returns-in_err-closed c =
+    let r = c.in_err-closed.field-0.0 in
+    let e : c.from_residual.result ≡ Err (Call r.why) = search rules in
+    rw e (piece-not _ c.args.ids.now c.args.count (close-after _ _ c.requires.0 c.in_err-closed.ensures) _ r.why refl)
 
-pub write_piece-k-requires : goal.write_piece-k-requires
-write_piece-k-requires c =
-    let pre = c.requires in
-    let close-sound = c.close_sound-closed in
-    ((close-after _ _ pre.0 close-sound.ensures).is_sound, search rules)
+pub write_piece-requires : goal.write_piece-requires
+write_piece-requires c = ((close-after _ _ c.requires.0 c.close_sound.ensures).is_sound, search rules)
 
-pub returns-then-k-ne0 : goal.returns-then-k-ne0
-returns-then-k-ne0 c =
-    let args = c.args in
-    let pre = c.requires in
-    let close-sound = c.close_sound-closed in
-    let told-close = c.told_close-n in
-    let if1 = c.if-n-ne0 in
-    let write-piece = c.write_piece-k in
-    piece-stops _ args.ids.now args.count (close-after _ _ pre.0 close-sound.ensures) (sym told-close.ensures ∙ if1.false) write-piece.ensures _ c.if-k-ne0.true
+pub returns-in_err-write_piece : goal.returns-in_err-write_piece
+returns-in_err-write_piece c =
+    let r = c.in_err-write_piece.field-0.0 in
+    let e : c.from_residual-in_err-write_piece.result ≡ Err (Call r.why) = search rules in
+    rw e (piece-stops _ c.args.ids.now c.args.count (close-after _ _ c.requires.0 c.in_ok-closed.ensures) refl c.in_err-write_piece.ensures _ r.why refl)
 
 pub returns : goal.returns
 returns c =
-    let args = c.args in
-    let pre = c.requires in
-    let close-sound = c.close_sound-closed in
-    let told-close = c.told_close-n in
-    let if1 = c.if-n-ne0 in
-    let id-told = c.id_told in
-    let write-piece = c.write_piece-k in
-    piece-goes _ args.ids.now args.count (close-after _ _ pre.0 close-sound.ensures) (sym told-close.ensures ∙ if1.false) write-piece.ensures c.if-k-ne0.false (search rules) _ id-told.ensures
+    piece-goes _ c.args.ids.now c.args.count (close-after _ _ c.requires.0 c.in_ok-closed.ensures) refl c.in_ok-write_piece.ensures refl (search rules) _ refl
