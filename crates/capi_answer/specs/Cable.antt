@@ -1,25 +1,20 @@
 -- docs/RULES.md, 13.3 and 13.6: what send and feed tell, as numbers.
-use Rattle.std.specs.Prelude.{ℕ, Bool, true, false, List}
+use Rattle.std.specs.Prelude.{ℕ, Bool, true, false, List, Result, Ok, Err}
 use Rattle.answer.specs.Number.{number}
-use Rattle.cable_send.specs.declared.sending.Sending.{Sending}
-use Rattle.cable_send.specs.declared.sending.Sending.TheVariants as Sending
-use Rattle.cable_judge.specs.declared.answers.Feeding.{Feeding}
-use Rattle.cable_judge.specs.declared.answers.Feeding.TheVariants as Feeding
+use Rattle.answer.specs.declared.Refusal.{Refusal}
+use Rattle.cable_judge.specs.declared.answers.NoFrame.{NoFrame}
 use Rattle.cable_head.specs.Feed.{Left, feed_number, is_whole}
 use Rattle.capi_answer.specs.declared.cable.SentNumbers.{SentNumbers}
 use Rattle.capi_answer.specs.declared.cable.FedNumbers.{FedNumbers}
 
-abbrev pub sent_numbers : Sending → SentNumbers
-sent_numbers (Sending.Done n) = record { number = 0; length = n }
-sent_numbers (Sending.Refused why) = record { number = number why; length = 0 }
+abbrev pub sent_numbers : Result ℕ Refusal → SentNumbers
+sent_numbers (Ok n) = record { number = 0; length = n }
+sent_numbers (Err why) = record { number = number why; length = 0 }
 
 -- how many bytes reached the output
-abbrev pub written : Feeding → ℕ
-written (Feeding.Accepted k) = k
-written Feeding.OutputShort = 0
-written Feeding.NotAwaited = 0
-written Feeding.Unended = 0
-written Feeding.HeadShort = 0
+abbrev pub written : Result ℕ NoFrame → ℕ
+written (Ok size) = size
+written (Err why) = 0
 
 abbrev pub as_number : Bool → ℕ
 as_number true = 1
@@ -35,7 +30,7 @@ abbrev pub fed_left : FedNumbers → List ℕ → List ℕ → FedLeft
 fed_left n h o = record { told = n; head = h; out = o }
 
 -- the answer's number, the bytes taken and written, and whether all frames are in then
-abbrev pub fed_numbers : Feeding → ℕ → List ℕ → FedNumbers
+abbrev pub fed_numbers : Result ℕ NoFrame → ℕ → List ℕ → FedNumbers
 fed_numbers a taken h = record { number = feed_number a; taken = taken; written = written a; whole = as_number (is_whole h) }
 
 abbrev pub in_numbers : Left → FedLeft

@@ -1,12 +1,10 @@
 // What send and feed tell, as numbers.
 ghost use Rattle.std.specs.Prelude.{◌≡◌};
-ghost use Rattle.cable_head.specs.Feed.{is_whole};
-ghost use Rattle.capi_answer.specs.Cable.{sent_numbers, written, as_number, fed_numbers};
+ghost use Rattle.capi_answer.specs.Cable.{sent_numbers, fed_numbers};
 
-use answer::number_of;
+use answer::Refusal;
 use cable_head::answers::Fed;
-use cable_judge::answers::Feeding;
-use cable_send::sending::Sending;
+use cable_head::feeding::is_whole;
 
 #[repr(C)]
 #[derive(Clone, Copy)]
@@ -24,52 +22,33 @@ pub struct FedNumbers {
     pub whole: u64,
 }
 
-pub fn tell_sent(a: Sending) -> SentNumbers
+pub fn tell_sent(a: Result<usize, Refusal>) -> SentNumbers
     ensures { result ≡ sent_numbers a }
 {
     match a {
-        Sending::Done(n) => SentNumbers {
+        Ok(length) => SentNumbers {
             number: 0,
-            length: n as u64,
+            length: length as u64,
         },
-        Sending::Refused(why) => SentNumbers {
-            number: number_of(why),
+        Err(why) => SentNumbers {
+            number: u64::from(why),
             length: 0,
         },
     }
-}
-
-// How many bytes reached the output.
-fn written_by(a: Feeding) -> u64
-    ensures { result ≡ written a }
-{
-    match a {
-        Feeding::Accepted(n) => n as u64,
-        Feeding::OutputShort => 0,
-        Feeding::NotAwaited => 0,
-        Feeding::Unended => 0,
-        Feeding::HeadShort => 0,
-    }
-}
-
-fn as_number(yes: bool) -> u64
-    ensures { result ≡ as_number yes }
-{
-    if yes {
-        return 1;
-    }
-    0
 }
 
 // Of a feed, and the head after it.
 pub fn tell_fed(f: Fed, head: &[u8]) -> FedNumbers
     ensures { result ≡ fed_numbers f.answer f.taken head.now }
 {
-    let answer = f.answer;
+    let (number, written) = match f.answer {
+        Ok(size) => (0, size as u64),
+        Err(why) => (u64::from(why), 0),
+    };
     FedNumbers {
-        number: cable_head::answers::number_of(answer),
+        number,
         taken: f.taken as u64,
-        written: written_by(answer),
-        whole: as_number(cable_head::feeding::is_whole(head)),
+        written,
+        whole: u64::from(is_whole(head)),
     }
 }

@@ -11,8 +11,8 @@ ghost use Rattle.model.specs.Told.{refused_told, told_by, told_by_close, told_by
 ghost use Rattle.capi_answer.specs.Numbers.{told_in};
 
 use answer::{
-    Answer, Closing, Overflow, PackedTable, Packing, Refusal, Tally, named_by, no_table, nowhere,
-    number_of,
+    Answer, Closed, Closing, Overflow, Packed, PackedTable, Packing, Refusal, Refused, Tally,
+    named_by, no_table, nowhere,
 };
 pub use batches::{BatchNumbers, tell_batch};
 pub use cable::{FedNumbers, SentNumbers, tell_fed, tell_sent};
@@ -59,15 +59,15 @@ fn as_numbers(number: u64, t: Tally, id: u64, made: PackedTable, o: Overflow) ->
 fn tell_refused(why: Refusal, t: Tally) -> Numbers
     ensures { told_in result ≡ refused_told why t }
 {
-    as_numbers(number_of(why), t, 0, no_table(), named_by(why))
+    as_numbers(u64::from(why), t, 0, no_table(), named_by(why))
 }
 
 pub fn tell(a: Answer) -> Numbers
     ensures { told_in result ≡ told_by a }
 {
     match a {
-        Answer::Done(t) => as_numbers(0, t, 0, no_table(), nowhere()),
-        Answer::Refused(why, t) => tell_refused(why, t),
+        Ok(t) => as_numbers(0, t, 0, no_table(), nowhere()),
+        Err(Refused { why, tally: t }) => tell_refused(why, t),
     }
 }
 
@@ -75,8 +75,8 @@ pub fn tell_close(a: Closing) -> Numbers
     ensures { told_in result ≡ told_by_close a }
 {
     match a {
-        Closing::Done(id, t) => as_numbers(0, t, id.0 as u64, no_table(), nowhere()),
-        Closing::Refused(why, t) => tell_refused(why, t),
+        Ok(Closed { id, tally: t }) => as_numbers(0, t, id.0 as u64, no_table(), nowhere()),
+        Err(Refused { why, tally: t }) => tell_refused(why, t),
     }
 }
 
@@ -84,7 +84,7 @@ pub fn tell_pack(a: Packing) -> Numbers
     ensures { told_in result ≡ told_by_pack a }
 {
     match a {
-        Packing::Done(p, t) => as_numbers(0, t, 0, p, nowhere()),
-        Packing::Refused(why, t) => tell_refused(why, t),
+        Ok(Packed { table: p, tally: t }) => as_numbers(0, t, 0, p, nowhere()),
+        Err(Refused { why, tally: t }) => tell_refused(why, t),
     }
 }

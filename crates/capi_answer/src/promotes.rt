@@ -1,12 +1,12 @@
 // A promotion's answer as twelve numbers.
 ghost use Rattle.std.specs.Prelude.{◌≡◌};
-ghost use Rattle.gsub_promote.specs.Tried.{told_by_promote};
+ghost use Rattle.gsub_promote.specs.Tried.{told_by_promote, unread_overflow};
 ghost use Rattle.gsub_promote.specs.Search.{done_promote, refused_promote};
 ghost use Rattle.capi_answer.specs.Promote.{told_in_promote};
 
-use answer::{Overflow, Tally, named_by, nowhere, number_of};
+use answer::{Overflow, Tally, named_by, nowhere};
 use gsub_promote::PromoteAnswer;
-use gsub_read::BAD_TABLE;
+use gsub_read::Unread;
 
 #[repr(C)]
 #[derive(Clone, Copy)]
@@ -64,12 +64,21 @@ fn refused(number: u64, o: Overflow, place: u64) -> PromoteNumbers
     }
 }
 
+// The link that it names: only 11 names one.
+fn link_of(why: Unread) -> Overflow
+    ensures { result ≡ unread_overflow why }
+{
+    match why {
+        Unread::BadTable(_) => nowhere(),
+        Unread::Refused(why) => named_by(why),
+    }
+}
+
 pub fn tell_promote(a: PromoteAnswer) -> PromoteNumbers
     ensures { told_in_promote result ≡ told_by_promote a }
 {
     match a {
-        PromoteAnswer::Done(n, id, length, t) => done(n as u64, id.0 as u64, length as u64, t),
-        PromoteAnswer::BadTable(place) => refused(BAD_TABLE, nowhere(), place as u64),
-        PromoteAnswer::Refused(why) => refused(number_of(why), named_by(why), 0),
+        Ok(p) => done(p.lookups as u64, p.root.0 as u64, p.length as u64, p.tally),
+        Err(why) => refused(u64::from(why), link_of(why), why.place() as u64),
     }
 }

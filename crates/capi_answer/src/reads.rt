@@ -3,8 +3,8 @@ ghost use Rattle.std.specs.Prelude.{◌≡◌};
 ghost use Rattle.gsub_read.specs.Read.{told_by_read};
 ghost use Rattle.capi_answer.specs.Numbers.{told_in_read};
 
-use answer::{Tally, number_of};
-use gsub_read::{BAD_TABLE, ReadAnswer};
+use answer::Tally;
+use gsub_read::ReadAnswer;
 
 #[repr(C)]
 #[derive(Clone, Copy)]
@@ -36,8 +36,7 @@ pub fn tell_read(a: ReadAnswer) -> ReadNumbers
     ensures { told_in_read result ≡ told_by_read a }
 {
     match a {
-        ReadAnswer::Done(id, t) => as_read(0, t, id.0 as u64, 0),
-        ReadAnswer::BadTable(place) => as_read(BAD_TABLE, Tally::none(), 0, place as u64),
-        ReadAnswer::Refused(why) => as_read(number_of(why), Tally::none(), 0, 0),
+        Ok(read) => as_read(0, read.tally, read.root.0 as u64, 0),
+        Err(why) => as_read(u64::from(why), Tally::none(), 0, why.place() as u64),
     }
 }

@@ -1,70 +1,35 @@
 // Lines of input: where one ends, and the numbers and bytes in it.
-ghost use Rattle.std.specs.Prelude.{◌≤◌, length};
+ghost use Rattle.std.specs.Prelude.{◌≤◌, ◌<◌, length};
 
-#[derive(Clone, Copy)]
-pub struct Four {
-    pub first: u32,
-    pub second: u32,
-    pub third: u32,
-    pub fourth: u32,
-}
+// How many numbers are read behind a line's letter.
+pub const NUMBERS: usize = 4;
 
-#[derive(Clone, Copy)]
-pub struct Parsed {
-    pub value: u32,
-    pub next: usize,
-}
-
-// The next line feed from `at` on, or the end.
-pub fn line_end(input: &[u8], at: usize) -> usize
-    requires { at ≤ length input.now }
-    ensures { (at ≤ result) × (result ≤ length input.now) }
+// The first line, without its line feed, and what stands behind that.
+pub fn split_line(input: &[u8]) -> (&[u8], &[u8])
+    ensures no_more { length result.1.now ≤ length input.now }
+    ensures fewer { 0 < length input.now → length result.1.now < length input.now }
 {
-    let mut i = at;
-    while i < input.len() {
-        if input[i] == 10 {
-            return i;
-        }
-        i += 1;
-    }
-    i
-}
-
-// The four numbers behind the letter of the line at `at`. One that is not there means nothing.
-pub fn arguments(input: &[u8], at: usize) -> Four {
-    let letter = number(input, at);
-    let a = number(input, letter.next);
-    let b = number(input, a.next);
-    let c = number(input, b.next);
-    let d = number(input, c.next);
-    Four {
-        first: a.value,
-        second: b.value,
-        third: c.value,
-        fourth: d.value,
+    match input.iter().position(|b| *b == b'\n') {
+        Some(end) => (&input[..end], &input[end + 1..]),
+        None => (input, &[]),
     }
 }
 
-// A number with one digit more.
-fn with_digit(n: u32, d: u8) -> u32 {
-    ((n as u64 * 10 + (d % 16) as u64) % 4294967296) as u32
+// The four numbers behind the letter that the input begins with. One that is not there means nothing.
+pub fn arguments(input: &[u8]) -> [u32; NUMBERS] {
+    let mut numbers: [u32; NUMBERS] = [0; NUMBERS];
+    let parts = input.split(|b| *b < b'0').skip(1);
+    for (n, part) in numbers.iter_mut().zip(parts) {
+        *n = number(part);
+    }
+    numbers
 }
 
-// The decimal number from `at` on, and the place past the byte that ends it.
-fn number(line: &[u8], at: usize) -> Parsed {
-    let mut value: u32 = 0;
-    let mut i = at;
-    while i < line.len() {
-        if line[i] < 48 {
-            return Parsed { value, next: i + 1 };
-        }
-        value = with_digit(value, line[i]);
-        i += 1;
-    }
-    Parsed {
-        value,
-        next: line.len(),
-    }
+// A number in decimal: its low 32 bits. Of a byte that is no digit the low half counts.
+fn number(digits: &[u8]) -> u32 {
+    digits.iter().fold(0, |n: u32, d| {
+        n.wrapping_mul(10).wrapping_add(u32::from(*d % 16))
+    })
 }
 
 // The value of a hex digit.
@@ -74,19 +39,12 @@ fn nibble(d: u8) -> u8
     (d % 16 + d / 64 * 9) % 16
 }
 
-// The bytes in hex from the third byte of a line on, as far as there is space. Answers how many.
-pub fn unhex(line: &[u8], space: &mut [u8]) -> usize
-    ensures { result ≤ length space.old }
-{
-    let mut k = 0;
-    let mut i = 3;
-    while i < line.len() {
-        if space.len() <= k {
-            break;
-        }
-        space[k] = nibble(line[i - 1]) * 16 + nibble(line[i]);
-        k += 1;
-        i += 2;
+// The bytes in hex from the third byte of a line on, as far as there is space.
+pub fn unhex<'a>(line: &[u8], space: &'a mut [u8]) -> &'a [u8] {
+    let (pairs, _) = line.get(2..).unwrap_or(&[]).as_chunks::<2>();
+    let n = pairs.len().min(space.len());
+    for (byte, [high, low]) in space.iter_mut().zip(pairs) {
+        *byte = nibble(*high) * 16 + nibble(*low);
     }
-    k
+    &space[..n]
 }

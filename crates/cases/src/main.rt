@@ -9,70 +9,64 @@ mod areas;
 mod calls;
 mod lines;
 
-ghost use Rattle.std.specs.Prelude.{◌≤◌, ◌<◌, length};
+ghost use Rattle.std.specs.Prelude.{◌≤◌, length};
 
-use areas::{at_most, filled};
+use areas::{MOST_WORDS, at_most, filled};
 use calls::call;
-use lines::{arguments, line_end};
-use report::text;
+use lines::{arguments, split_line};
 
 // How much of standard input is taken.
 const INPUT: usize = 1 << 16;
 
-// The lines from `from` on, up to the next case.
-fn run_lines(
+// The lines up to the next case. Answers what is left from that on.
+fn run_lines<'a>(
     to: &impl Print,
-    input: &[u8],
-    from: usize,
+    input: &'a [u8],
     store: &mut [u8],
     records: &mut [u32],
-) -> usize
-    ensures { from ≤ result }
+) -> &'a [u8]
+    ensures { length result.now ≤ length input.now }
 {
-    let mut at = from;
-    while at < input.len() {
-        if input[at] == b'c' {
+    let mut rest = input;
+    while let Some(op) = rest.first() {
+        if *op == b'c' {
             break;
         }
-        let end = line_end(input, at);
-        let n = arguments(input, at);
-        call(to, input[at], n, &input[at..end], store, records);
-        at = end + 1;
+        let (line, after) = split_line(rest);
+        call(to, *op, arguments(rest), line, store, records);
+        rest = after;
     }
-    at
+    rest
 }
 
-// In stores of the lengths that the line at `from` names, with nothing of a session in them.
-fn run_lent(to: &impl Print, input: &[u8], from: usize) -> usize
-    ensures { from ≤ result }
+// In stores of the lengths that the first line names, with nothing of a session in them.
+fn run_lent<'a>(to: &impl Print, input: &'a [u8]) -> &'a [u8]
+    ensures { length result.now ≤ length input.now }
 {
-    let lent = arguments(input, from);
+    let [length, words, ..] = arguments(input);
     let mut store = filled(0xa5);
-    let mut records: [u32; 512] = [0xa5a5a5a5; 512];
-    let bytes: &mut [u8] = &mut store;
-    let words: &mut [u32] = &mut records;
-    let n = at_most(lent.first, bytes.len());
-    let r = at_most(lent.second, words.len());
-    run_lines(to, input, from, &mut bytes[0..n], &mut words[0..r])
+    let mut records: [u32; MOST_WORDS] = [0xa5a5a5a5; MOST_WORDS];
+    let n = at_most(length, store.len());
+    let r = at_most(words, MOST_WORDS);
+    run_lines(to, input, &mut store[..n], &mut records[..r])
 }
 
-// The name stands behind the letter.
-fn run_case(to: &impl Print, input: &[u8], at: usize) -> usize
-    requires { at < length input.now }
-    ensures { at < result }
+// A case, from its name on. Answers what is left behind it.
+fn run_case<'a>(to: &impl Print, named: &'a [u8]) -> &'a [u8]
+    ensures { length result.now ≤ length named.now }
 {
-    let name = at + 1;
-    let end = line_end(input, name);
-    text(to, b"case");
-    text(to, &input[name..end]);
-    text(to, b"\n");
-    run_lent(to, input, end + 1)
+    let (name, lines) = split_line(named);
+    let _ = print!(to; "case");
+    streams::write_all(to, name);
+    let _ = println!(to; "");
+    run_lent(to, lines)
 }
 
+// Each case is one letter, its name behind it, and its lines.
 fn run(to: &impl Print, input: &[u8]) {
-    let mut at = 0;
-    while at < input.len() {
-        at = run_case(to, input, at);
+    let mut rest = input;
+    while let Some((_, named)) = rest.split_first() {
+        rest = run_case(to, named);
     }
 }
 

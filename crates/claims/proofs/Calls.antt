@@ -1,4 +1,5 @@
 -- What holds of each of the eight calls on any lent memory.
+use Rattle.std.specs.Prelude.{Ok}
 use mathlib.Core.Path.{◌≡◌, refl, sym, ap, ◌∙◌}
 use Prim.Native.Nat.{ℕ}
 use mathlib.Core.List.{List}
@@ -12,7 +13,6 @@ use Rattle.lists.proofs.Whole.{over-front, over-rest}
 use Rattle.answer.specs.Number.{number}
 use Rattle.answer.specs.declared.Refusal.{Refusal}
 use Rattle.answer.specs.declared.PackedTable.{PackedTable}
-use Rattle.answer.specs.declared.Packing.TheVariants.{Done}
 use Rattle.model.specs.Judge.{Verdict, accepted, refused, number_of, in_table, Tells, verdict}
 use Rattle.model.specs.Told.{Told, refusal, told_by, told_by_close, told_by_pack}
 use Rattle.model.proofs.Refusals.{told-exactly, told-listed}
@@ -109,7 +109,7 @@ module _ (s : Stores) (id copies : ℕ) (out work : List ℕ) where
     -- the work memory cleared, or as it was
     work_is : o.work ≡ pick (clearing (number_of v)) (cleared copies s.words work) work
 
-  packed-by : (v : Verdict) (n : PackedTable) (t : List ℕ) → JudgedPack v (settle_pack_step v copies s.bytes s.words out work (packed (Done n (tally_in s.bytes s.words)) t (cleared copies s.words work)))
+  packed-by : (v : Verdict) (n : PackedTable) (t : List ℕ) → JudgedPack v (settle_pack_step v copies s.bytes s.words out work (packed (Ok (record { table = n; tally = tally_in s.bytes s.words })) t (cleared copies s.words work)))
   packed-by accepted n t = record { number_is = refl; refuses = λ n. absurd (n refl); out_stands = λ n. absurd (n refl); work_is = refl }
   packed-by (refused why) n t = record { number_is = refl; refuses = λ n. (why, refl); out_stands = λ n. refl; work_is = rw (ne_eqb (number why) 0 (λ z. omega (arith, refused-number why))) }
 

@@ -1,4 +1,5 @@
 -- A pack on stores that hold a session tells what the abstract pack tells; an accepted one leaves the abstract table in front of the output.
+use Rattle.std.specs.Prelude.{Ok}
 use mathlib.Core.Path.{◌≡◌, refl, ap, subst}
 use Prim.Native.Nat.{ℕ, ◌≤◌, ◌<◌}
 use mathlib.Core.List.{List}
@@ -9,7 +10,6 @@ use lib.ListN.{length}
 use Rattle.lists.specs.Lists.{over}
 use Rattle.answer.specs.Number.{number}
 use Rattle.answer.specs.declared.Refusal.{Refusal}
-use Rattle.answer.specs.declared.Packing.TheVariants.{Done}
 use Rattle.model_orders.specs.Graph.{Graph, graph_of, Ranked}
 use Rattle.model_orders.specs.Reading.{reading_at, readings}
 use Rattle.model_orders.specs.Table.{Outcome, placed, overflow, Fields}
@@ -90,7 +90,7 @@ module _ (b w : List ℕ) (h : sound b w ≡ true) (id copies : ℕ) where
     -- by a verdict, on a table t
     settled : (v : Verdict) (t : List ℕ) → (v ≡ accepted → length t ≡ length_of c) → (v ≡ accepted → length_of c ≤ length out)
         → ((why : Refusal) → v ≡ refused why → number why ≡ 12 → ⊥)
-        → PackFollows out (settle_pack_step v copies b w out work (packed (Done (table_made c) (tally_in b w)) (over 0 t out) (cleared copies w work)))
+        → PackFollows out (settle_pack_step v copies b w out work (packed (Ok (record { table = table_made c; tally = tally_in b w })) (over 0 t out) (cleared copies w work)))
         (settle_pack v a (record { told = done_pack (length_of c) (length c.grown.copies) (placed_of c) (tally_of a); table = t }))
     settled accepted t long fits other = record {
       told = ap (done_pack (length_of c) (length c.grown.copies) (placed_of c)) (tally-decode b w h);

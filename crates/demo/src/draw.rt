@@ -2,51 +2,44 @@
 ghost use Rattle.std.specs.Prelude.{◌+◌, ◌≤◌, ◌<◌, length};
 
 use answer::Packing;
-use report::{column, hex, repeat, text, value};
 
 fn places(to: &impl Print, table: &[u8]) {
-    let mut i = 0;
-    while i < table.len() {
-        column(to, i as u64);
-        i += 1;
+    for i in 0..table.len() {
+        let _ = print!(to; " {i:>2}");
     }
 }
 
-fn next_byte(to: &impl Print, b: u8) {
-    text(to, b" ");
-    hex(to, b);
+fn bytes(to: &impl Print, table: &[u8]) {
+    for b in table {
+        let _ = print!(to; " {b:02x}");
+    }
 }
 
-fn bytes(to: &impl Print, table: &[u8]) {
-    let mut i = 0;
-    while i < table.len() {
-        next_byte(to, table[i]);
-        i += 1;
+// A short text, n times.
+fn repeat(to: &impl Print, text: &str, n: usize) {
+    for _ in 0..n {
+        let _ = print!(to; "{text}");
     }
 }
 
 // Three columns for each byte: from the first digit of one to the second of another, and on to the end of the table.
 fn arrow(to: &impl Print, place: usize, offset: usize, after: usize) {
-    text(to, b"\n      ");
-    repeat(to, b"   ", place);
-    text(to, b"+");
-    repeat(to, b"---", offset);
-    text(to, b"^");
-    repeat(to, b"   ", after);
+    let _ = print!(to; "\n      ");
+    repeat(to, "   ", place);
+    let _ = print!(to; "+");
+    repeat(to, "---", offset);
+    let _ = print!(to; "^");
+    repeat(to, "   ", after);
 }
 
 fn sum(to: &impl Print, place: usize, at: usize, offset: usize, child: usize) {
-    value(to, b"offset at ", at as u64);
-    value(to, b": ", place as u64);
-    value(to, b" + ", offset as u64);
-    value(to, b" = ", child as u64);
+    let _ = print!(to; "offset at {at}: {place} + {offset} = {child}");
 }
 
 fn stands(to: &impl Print, found: u8, linked: u8) {
-    text(to, b", there stands ");
-    hex(to, found);
+    let _ = print!(to; ", there stands {found:02x}");
     if found == linked {
-        text(to, b", as linked");
+        let _ = print!(to; ", as linked");
     }
 }
 
@@ -81,7 +74,7 @@ fn follow(to: &impl Print, table: &[u8], place: usize, at: usize, linked: u8) ->
 
 // From the root on, as a reader of the table goes.
 fn arrows(to: &impl Print, table: &[u8]) {
-    if table.len() == 0 {
+    if table.is_empty() {
         return;
     }
     let b = follow(to, table, 0, 1, b'b');
@@ -91,21 +84,20 @@ fn arrows(to: &impl Print, table: &[u8]) {
 }
 
 fn draw_table(to: &impl Print, table: &[u8]) {
-    text(to, b"place");
+    let _ = print!(to; "place");
     places(to, table);
-    text(to, b"\ntable");
+    let _ = print!(to; "\ntable");
     bytes(to, table);
     arrows(to, table);
-    text(to, b"\n");
+    let _ = println!(to; "");
 }
 
 // The table that a pack left at the front of its output.
 pub fn draw(to: &impl Print, out: &[u8], told: Packing) {
-    let Packing::Done(p, _) = told else {
+    let Ok(packed) = told else {
         return;
     };
-    let n = p.length;
-    if n <= out.len() {
-        draw_table(to, &out[0..n]);
+    if let Some(table) = out.get(..packed.table.length) {
+        draw_table(to, table);
     }
 }

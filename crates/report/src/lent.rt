@@ -1,71 +1,47 @@
 // Lent memory, as text.
-use crate::print::{hex, text, value};
+use std::fmt::Display;
 
-fn next_sum(sum: u64, b: u8) -> u64 {
-    (sum % 4294967296 * 31 + b as u64) % 4294967296
-}
+// A stretch of more bytes is told by its length and its sum.
+const LONG: usize = 64;
+
+const BASE: u32 = 31;
 
 // A number that tells bytes and their order.
-fn sum_of(bytes: &[u8]) -> u64 {
-    let mut sum: u64 = 0;
-    let mut i = 0;
-    while i < bytes.len() {
-        sum = next_sum(sum, bytes[i]);
-        i += 1;
-    }
-    sum
+fn sum_of(bytes: &[u8]) -> u32 {
+    bytes.iter().fold(0, |sum: u32, b| {
+        sum.wrapping_mul(BASE).wrapping_add(u32::from(*b))
+    })
 }
 
 // Bytes in hex.
 pub fn print_bytes(to: &impl Print, bytes: &[u8]) {
-    let mut i = 0;
-    while i < bytes.len() {
-        hex(to, bytes[i]);
-        i += 1;
+    for b in bytes {
+        let _ = print!(to; "{b:02x}");
     }
 }
 
 // Bytes in hex, or of many how many and their sum.
 pub fn show_bytes(to: &impl Print, name: &[u8], bytes: &[u8]) {
-    text(to, name);
-    if bytes.len() <= 64 {
+    streams::write_all(to, name);
+    if bytes.len() <= LONG {
         print_bytes(to, bytes);
-        text(to, b"\n");
-        return;
+    } else {
+        let _ = print!(to; "{} sum {}", bytes.len(), sum_of(bytes));
     }
-    streams::print_decimal(to, bytes.len() as u64);
-    value(to, b" sum ", sum_of(bytes));
-    text(to, b"\n");
+    let _ = println!(to; "");
 }
 
 // Number i of a line, behind those before it.
-pub fn print_next(to: &impl Print, i: usize, n: u64) {
-    if 0 < i {
-        text(to, b" ");
-    }
-    streams::print_decimal(to, n);
+pub fn print_next(to: &impl Print, i: usize, n: impl Display + Drop) {
+    let gap = if i == 0 { "" } else { " " };
+    let _ = print!(to; "{gap}{n}");
 }
 
-fn print_word(to: &impl Print, i: usize, w: u32) {
-    print_next(to, i, w as u64);
-}
-
-pub fn show_words(to: &impl Print, name: &[u8], words: &[u32]) {
-    text(to, name);
-    let mut i = 0;
-    while i < words.len() {
-        print_word(to, i, words[i]);
-        i += 1;
+// Numbers in a line, of any width.
+pub fn show_words<T: Display>(to: &impl Print, name: &[u8], words: &[T]) {
+    streams::write_all(to, name);
+    for (i, w) in words.iter().enumerate() {
+        print_next(to, i, w);
     }
-    text(to, b"\n");
-}
-
-pub fn show_longs(to: &impl Print, name: &[u8], words: &[u64]) {
-    text(to, name);
-    let mut i = 0;
-    while i < words.len() {
-        print_next(to, i, words[i]);
-        i += 1;
-    }
-    text(to, b"\n");
+    let _ = println!(to; "");
 }

@@ -8,5 +8,5 @@ mod lent;
 mod print;
 
 pub use calls::{tell, tell_close, tell_pack};
-pub use lent::{print_bytes, print_next, show_bytes, show_longs, show_words};
-pub use print::{column, hex, repeat, text, value};
+pub use lent::{print_bytes, print_next, show_bytes, show_words};
+pub use print::{text, value};

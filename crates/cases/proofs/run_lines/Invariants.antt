@@ -1,8 +1,8 @@
-use Rattle.std.proofs.Common.{length, ◌-◌, ◌≤◌}
+use Rattle.std.proofs.Common.{length, ◌≤◌}
 use Rattle.cases.proofs.run_lines.Given as goal
 
-abbrev pub invariant-loop-at : goal.invariant-loop-at
-invariant-loop-at g l = l.fn.from ≤ l.at
+abbrev pub invariant-loop-op : goal.invariant-loop-op
+invariant-loop-op g l = length l.rest ≤ length l.input
 
-abbrev pub decreases-loop-at : goal.decreases-loop-at
-decreases-loop-at g l = length l.input - l.at
+abbrev pub decreases-loop-op : goal.decreases-loop-op
+decreases-loop-op g l = length l.rest
