@@ -75,8 +75,8 @@ module _ (b : List ℕ) (w next : Walk) where
   takes (Move.New at width) h = record { later = _; first = h.0.made }
   takes (Move.Link width) h = record { later = _; first = h.0.made }
   takes Move.End h = record { later = _; first = h.made }
-  takes (Move.Stop p) h = record { later = h.later; first = h.made }
-  takes Move.Done h = record { later = []; first = h }
+  takes (Move.Stop p) h = record { later = h.0.later; first = h.0.made }
+  takes Move.Done h = record { later = []; first = h.0 }
 
 -- an open table has its end left
 no_end : (a c : List Op) → a ++ (end ∷ c) ≡ [] → ⊥
@@ -122,7 +122,7 @@ module _ (b : List ℕ) (w next : Walk) (i : ℕ) (s : Stores) (j : ObjectId) (t
   goes_on k o (Move.Link width) v h = one_less (Move.Link width) _ refl v.0.made v.0.stands h
   goes_on k o Move.End v h = one_less Move.End end refl v.made v.stands h
   goes_on k o (Move.Stop p) v h = absurd (not_stopped b p i s t j h)
-  goes_on k o Move.Done v h = absurd (some-rest b w k o v)
+  goes_on k o Move.Done v h = absurd (some-rest b w k o v.0)
 
 -- a refusal ends it
 pub has_ended : (b : List ℕ) (w next : Walk) (m : Move) (i : ℕ) (s : Stores) (u : Unread) (t : Stores) → MovesBy b w m next → PerformedBy (ops_of b m) i s (Err u) t → RanBy (rest_of b w) i s (Err u) t

@@ -12,6 +12,7 @@ pub enum Times {
 }
 
 // How often its fields stand there, which they are, and how many bytes they are in all.
+#[derive(Clone, Copy)]
 pub struct Run {
     pub by: Times,
     pub each: &'static [Field],

@@ -112,14 +112,15 @@ pub record Stops (b : List ℕ) (w : Walk) (p : ℕ) : Type 0 where
   pub later : List Op
   pub made : rest_of b w ≡ stop p ∷ later
 
+-- a walk that stops or is done stays as it was
 unfoldable pub MovesBy : List ℕ → Walk → Move → Walk → Type 0
 MovesBy b w Move.Begin next = Goes b w begin next
 MovesBy b w (Move.Put at width) next = Goes b w (put (part at (at + width) b)) next × (at + width ≤ length b)
 MovesBy b w (Move.New at width) next = Goes b w (put (part at (at + width) new_bytes)) next × (at + width ≤ length new_bytes)
 MovesBy b w (Move.Link width) next = Goes b w (link width) next × (width ≤ most_width)
 MovesBy b w Move.End next = Goes b w end next
-MovesBy b w (Move.Stop p) next = Stops b w p
-MovesBy b w Move.Done next = rest_of b w ≡ []
+MovesBy b w (Move.Stop p) next = Stops b w p × (next ≡ w)
+MovesBy b w Move.Done next = (rest_of b w ≡ []) × (next ≡ w)
 
 -- g is the next field of f, the innermost table
 pub record NextIs (b : List ℕ) (w : Walk) (f : Frame) (g : Field) : Type 0 where

@@ -59,7 +59,7 @@ impl Frame {
 }
 
 // The open tables, the innermost last; `back` where the innermost one's child was just closed.
-#[derive(Drop)]
+#[derive(Clone, Copy)]
 pub struct Walk {
     pub depth: usize,
     pub back: bool,
@@ -206,7 +206,7 @@ fn step_in(table: &[u8], w: &mut Walk, f: Frame, g: Field) -> Move
     }
 }
 
-// The next move of a walk, which is made on it.
+// The next move of a walk, which is made on it. Stop and Done leave it as it was.
 pub fn step(table: &[u8], w: &mut Walk) -> Move
     requires { Standing w.old }
     ensures { MovesBy table.now w.old result w.new }

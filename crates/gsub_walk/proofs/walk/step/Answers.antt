@@ -7,7 +7,7 @@ use Rattle.gsub_walk.proofs.walk.step.Goals as goal
 
 pub returns-then-w-eq0 : goal.returns-then-w-eq0
 unfolding MovesBy
-returns-then-w-eq0 c = done-rest c.args.table.now _ c.if-w-eq0.true
+returns-then-w-eq0 c = (done-rest c.args.table.now _ c.if-w-eq0.true, refl)
 
 pub returns-then-w : goal.returns-then-w
 returns-then-w c =

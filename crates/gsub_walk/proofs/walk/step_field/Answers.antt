@@ -1,4 +1,5 @@
 -- A law for each move: a field put, one refused, a table too deep, a child begun.
+use mathlib.Core.Path.{refl}
 use native.Mathlib.Omega.{arith}
 use Rattle.gsub_walk.specs.Rest.{MovesBy}
 use Rattle.gsub_walk.proofs.Moving.{next-ok, field-narrow}
@@ -29,7 +30,7 @@ overflow_add-child c =
 pub returns-then-w-ge-DEEPEST : goal.returns-then-w-ge-DEEPEST
 unfolding MovesBy
 returns-then-w-ge-DEEPEST c =
-    deep-made c.requires.0 c.requires.1 (omega (arith, c.well_formed.0.1)) c.judge.ensures c.in-Follow.is c.read.ensures c.if-w-ge-DEEPEST.true
+    (deep-made c.requires.0 c.requires.1 (omega (arith, c.well_formed.0.1)) c.judge.ensures c.in-Follow.is c.read.ensures c.if-w-ge-DEEPEST.true, refl)
 
 pub child_mode-mode-requires : goal.child_mode-mode-requires
 child_mode-mode-requires c = (
@@ -53,7 +54,7 @@ returns-in-Keep c =
 pub returns-in-Refuse : goal.returns-in-Refuse
 unfolding MovesBy
 returns-in-Refuse c =
-    refuse-made c.requires.0 c.requires.1 (omega (arith, c.well_formed.0.1)) c.judge.ensures c.in-Refuse.is
+    (refuse-made c.requires.0 c.requires.1 (omega (arith, c.well_formed.0.1)) c.judge.ensures c.in-Refuse.is, refl)
 
 pub returns-else-w-ge-DEEPEST : goal.returns-else-w-ge-DEEPEST
 returns-else-w-ge-DEEPEST c =

@@ -1,4 +1,5 @@
 -- Type 7 put, or the slice's end.
+use mathlib.Core.Path.{refl}
 use native.Mathlib.Omega.{arith}
 use Rattle.gsub_walk.specs.Rest.{MovesBy}
 use Rattle.gsub_walk.proofs.Moving.{next-ok, field-narrow}
@@ -13,7 +14,7 @@ advance-requires c =
 pub returns-then-not-lies_in : goal.returns-then-not-lies_in
 unfolding MovesBy
 returns-then-not-lies_in c =
-    type-past c.requires.0 c.requires.1 c.requires.2 c.lies_in.ensures c.if-not-lies_in.true
+    (type-past c.requires.0 c.requires.1 c.requires.2 c.lies_in.ensures c.if-not-lies_in.true, refl)
 
 pub returns : goal.returns
 returns c =
