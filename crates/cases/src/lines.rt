@@ -40,7 +40,9 @@ fn nibble(d: u8) -> u8
 }
 
 // The bytes in hex from the third byte of a line on, as far as there is space.
-pub fn unhex<'a>(line: &[u8], space: &'a mut [u8]) -> &'a [u8] {
+pub fn unhex<'a>(line: &[u8], space: &'a mut [u8]) -> &'a [u8]
+    ensures { length result.now ≤ length space.old }
+{
     let (pairs, _) = line.get(2..).unwrap_or(&[]).as_chunks::<2>();
     let n = pairs.len().min(space.len());
     for (byte, [high, low]) in space.iter_mut().zip(pairs) {
