@@ -27,6 +27,7 @@ pub struct Runs {
 }
 
 impl Runs {
+    #[inline(always)]
     pub fn bytes(self, store: &[u8]) -> &[u8]
         requires { self.from + self.size ≤ length store.now }
         ensures { result.now ≡ part self.from (self.from + self.size) store.now }
@@ -34,6 +35,7 @@ impl Runs {
         &store[self.from..self.from + self.size]
     }
 
+    #[inline(always)]
     pub fn links(self, records: &[u32]) -> &[u32]
         requires { self.at + self.words ≤ length records.now }
         ensures { result.now ≡ part self.at (self.at + self.words) records.now }
@@ -42,6 +44,7 @@ impl Runs {
     }
 }
 
+#[inline(always)]
 pub fn runs_of(objects: usize, s: Span) -> Runs
     requires { (s.from ≤ s.to) × (s.first ≤ s.last) × (need objects s.last < 2 ^ 64) }
     ensures { result ≡ runs_of objects s }
@@ -54,17 +57,20 @@ pub fn runs_of(objects: usize, s: Span) -> Runs
     }
 }
 
-// Whether two objects are the same: by how many links they have, then by their bytes, then by the words of their links.
+// Whether two objects are the same: by their sizes first, which tell most apart, then by their bytes and the words of their links.
+#[inline(always)]
 pub fn same_runs(store: &[u8], records: &[u32], r: Runs, s: Runs) -> bool
     requires { (r.from + r.size ≤ length store.now) × (r.at + r.words ≤ length records.now) × (s.from + s.size ≤ length store.now) × (s.at + s.words ≤ length records.now) }
     ensures { result ≡ (same_list eqb (part r.from (r.from + r.size) store.now) (part s.from (s.from + s.size) store.now) && same_list eqb (part r.at (r.at + r.words) records.now) (part s.at (s.at + s.words) records.now)) }
 {
-    r.words == s.words
+    r.size == s.size
+        && r.words == s.words
         && equal(r.bytes(store), s.bytes(store))
         && equal(r.links(records), s.links(records))
 }
 
 // Whether closed object `id` equals the innermost open one, of these runs, where `objects` is the object limit.
+#[inline(always)]
 pub fn equals_closed(store: &[u8], records: &[u32], objects: usize, own: Runs, id: usize) -> bool
     requires { Ground store.now records.now objects (closed_count records.now) own × (id < closed_count records.now) }
     ensures { result ≡ same_object (innermost_in store.now records.now) (closed_at store.now records.now id) }
