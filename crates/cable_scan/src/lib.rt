@@ -2,6 +2,8 @@
 #![tactic(auto)]
 
 ghost use Rattle.std.specs.Prelude.{◌≡◌, true};
+ghost use Rattle.memchr.specs.Find.{IsFirstByte, is_byte};
+ghost use Rattle.cable_frame.specs.Frame.{line_feed};
 ghost use Rattle.cable_scan.specs.Scan.{line_next, line_on, scan_on};
 ghost use Rattle.cable_scan.specs.Lines.{quiet};
 
@@ -52,13 +54,28 @@ fn line_after(line: u64, bytes: &[u8]) -> u64
     state
 }
 
+// How many bytes are looked at one by one before the rest is searched: a short line ends among them, and a longer one hardly pays for it.
+const NEAR: usize = 6;
+
+// Where the first line feed stands.
+fn first_feed(text: &[u8]) -> Option<usize>
+    ensures { IsFirstByte (is_byte line_feed) text.now result }
+{
+    for (i, b) in text[..text.len().min(NEAR)].iter().enumerate() {
+        if *b == b'\n' {
+            return Some(i);
+        }
+    }
+    memchr(b'\n', text)
+}
+
 // The scan goes line by line: to the next line feed, and then back to how the line started.
 pub fn scan(line: u64, text: &[u8]) -> Scanned
     ensures { result ≡ scan_on 0 line text.now }
 {
     let mut state = line;
     let mut from = 0;
-    while let Some(size) = memchr(b'\n', &text[from..]) {
+    while let Some(size) = first_feed(&text[from..]) {
         let end = from + size;
         if line_after(state, &text[from..end]) == AGREED {
             return Scanned {

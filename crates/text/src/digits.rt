@@ -25,7 +25,12 @@ pub fn value_of(c: u8) -> u32
 pub fn all_digits(s: &[u8], base: u32) -> bool
     ensures { result ≡ all_digits base s.now }
 {
-    s.iter().all(|c| value_of(*c) < base)
+    for c in s {
+        if base <= value_of(*c) {
+            return false;
+        }
+    }
+    true
 }
 
 // How many digits of the base stand in front.
