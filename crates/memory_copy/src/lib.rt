@@ -1,7 +1,7 @@
 // Bytes copied from one slice to another.
 #![tactic(auto)]
 
-ghost use Rattle.std.specs.Prelude.{◌≡◌, ◌+◌, ◌≤◌, length, take, drop};
+ghost use Rattle.std.specs.Prelude.{◌≡◌, ◌+◌, ◌≤◌, ◌<◌, length, take, drop};
 ghost use Rattle.lists.specs.Lists.{over};
 
 // N bytes of `src` from i on, to where they belong if all of it is written from `at` on. All are read before one is written, so that they are one
@@ -39,20 +39,22 @@ fn copy_8(s: &mut [u8], at: usize, src: &[u8])
 // So many bytes are copied most quickly: no branch and no step goes by how many there are.
 pub const WIDE: usize = 48;
 
-// Eight bytes or more in steps, of which the last may overlap the one before.
-fn copy_more(s: &mut [u8], at: usize, src: &[u8])
-    requires { (at + length src.now ≤ length s.old) × (8 ≤ length src.now) }
+// N bytes or more in steps of N, of which the last may overlap the one before.
+fn copy_more<const N: usize>(s: &mut [u8], at: usize, src: &[u8])
+    requires { (at + length src.now ≤ length s.old) × (0 < N) × (N ≤ length src.now) }
     ensures { s.new ≡ over at src.now s.old }
 {
-    let last = src.len() - 8;
-    for i in (0..last).step_by(8) {
-        step::<8>(s, at, src, i);
+    let last = src.len() - N;
+    for i in (0..last).step_by(N) {
+        step::<N>(s, at, src, i);
     }
-    step::<8>(s, at, src, last);
+    step::<N>(s, at, src, last);
 }
 
-// How many bytes are copied in steps at most.
+// How many bytes are copied in steps of eight at most, and how many a step has where there are more.
 const MANY: usize = 128;
+
+const LONG: usize = 32;
 
 // Writes all of `src` over the bytes from `at` on. A few bytes go in steps: where a loop over them ends is hard to foretell.
 #[inline(never)]
@@ -69,7 +71,7 @@ pub fn copy(s: &mut [u8], at: usize, src: &[u8])
         }
         4..8 => copy_4(s, at, src),
         8..=32 => copy_8(s, at, src),
-        33..=MANY => copy_more(s, at, src),
-        n => s[at..at + n].copy_from_slice(src),
+        33..=MANY => copy_more::<8>(s, at, src),
+        _ => copy_more::<LONG>(s, at, src),
     }
 }

@@ -1,14 +1,12 @@
--- What is copied at once is all of `src`: a step of as many bytes as it has, or the library's copy over a part as long. One by one, the bytes that are
--- left, written over the slice as it is, give what the contract says.
+-- What is copied at once is all of `src`: a step of as many bytes as it has. One by one, the bytes that are left, written over the slice as it is, give what
+-- the contract says.
 use mathlib.Core.Path.{refl, sym, ap, ◌∙◌}
-use Prim.Native.Nat.{◌+◌, ◌-◌}
 use native.Mathlib.Nat.{add-zero}
 use native.Mathlib.Omega.{arith}
-use lib.ListN.{length}
 use lib.Seq.{take_all}
 use borrow.Author.Rules.{rules}
 use Rattle.lists.specs.Lists.{over}
-use Rattle.memory_copy.proofs.Steps.{step-first, over-lent-part, copy-next, copy-all}
+use Rattle.memory_copy.proofs.Steps.{step-first, copy-next, copy-all}
 use Rattle.memory_copy.proofs.copy.Goals as goal
 
 pub returns-in-48 : goal.returns-in-48
@@ -24,8 +22,3 @@ loop-i-preserved c = (search rules, search rules, copy-next _ _ _ _ (search rule
 
 pub returns-after-loop-i : goal.returns-after-loop-i
 returns-after-loop-i c = sym (copy-all _ _ _ _ (search rules)) ∙ c.loop-i.invariant.2
-
-pub returns-in_default : goal.returns-in_default
-returns-in_default c =
-    let f = c.args in
-    rw c.copy_from_slice.ensures.after (over-lent-part f.at (f.at + length f.src.now - f.at) f.src.now f.s.now (omega arith))
