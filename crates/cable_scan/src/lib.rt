@@ -54,8 +54,8 @@ fn line_after(line: u64, bytes: &[u8]) -> u64
     state
 }
 
-// How many bytes are looked at one by one before the rest is searched: a short line ends among them, and a longer one hardly pays for it.
-const NEAR: usize = 6;
+// How many bytes are looked at one by one before all are searched: a line may be empty. More would cost every longer line, whose first bytes are searched again.
+const NEAR: usize = 1;
 
 // Where the first line feed stands.
 fn first_feed(text: &[u8]) -> Option<usize>
