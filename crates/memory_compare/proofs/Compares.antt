@@ -1,19 +1,26 @@
 -- What std's calls answer, as the tests of Lists.
-use Rattle.std.proofs.Common.{◌≡◌, ℕ, zero, suc, ◌-◌, Bool, true, false, ◌&&◌, List, [], ◌∷◌, length, eqb, refl, ap, ◌∙◌, Bor, arith}
+use Rattle.std.proofs.Common.{◌≡◌, ℕ, zero, suc, ◌-◌, Bool, true, false, ◌&&◌, List, [], ◌∷◌, length, eqb, refl, ap, sym, ◌∙◌, Bor, arith, bit_or}
 use Rattle.std.specs.List.{fold, slice_get}
 use Rattle.std.specs.Option.{option_eq, option_copied}
 use Rattle.std.specs.Prelude.{Option, Some, None}
+use Rattle.std.specs.Int.Bits.{or_zero_l}
+use Rattle.std.proofs.lemmas.Nat.{le_or_l}
+use borrow.Author.Tests.{ne_eqb}
 use lib.Pointwise.{pointwise}
-use mathlib.Core.Bool.{and_assoc}
+use mathlib.Core.Bool.{and_assoc, and-true}
 use Rattle.lists.specs.Lists.{same_list, zeros}
 use Rattle.lists.proofs.Same.{and_left, and_right}
 
--- a flag that falls at the first byte that is not zero
-pub clean-zeros : (b : Bool) (l : List ℕ) → fold (λ c x. c && eqb x 0) b l ≡ (b && zeros l)
+-- two numbers have no bit exactly if neither has one
+no-bits : (a b : ℕ) → eqb (bit_or a b) 0 ≡ (eqb a 0 && eqb b 0)
+no-bits zero b = rw (or_zero_l b)
+no-bits (suc a) b = rw (ne_eqb (suc a) 0 (omega arith), ne_eqb (bit_or (suc a) b) 0 (omega (arith, le_or_l (suc a) b)))
+
+-- all their bits, gathered
+pub gathered-zeros : (a : ℕ) (l : List ℕ) → eqb (fold bit_or a l) 0 ≡ (eqb a 0 && zeros l)
 unfolding zeros
-clean-zeros true [] = refl
-clean-zeros false [] = refl
-clean-zeros b (x ∷ l) = clean-zeros (b && eqb x 0) l ∙ and_assoc b (eqb x 0) (zeros l)
+gathered-zeros a [] = sym (and-true (eqb a 0))
+gathered-zeros a (x ∷ l) = gathered-zeros (bit_or a x) l ∙ rw (no-bits a x, and_assoc)
 
 pub zeros_nothing : (l : List ℕ) → length l ≡ 0 → zeros l ≡ true
 unfolding zeros

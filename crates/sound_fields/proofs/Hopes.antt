@@ -1,6 +1,6 @@
 -- The look for a field that no order can fill: an object of right slots that is small has none, and else the links are looked at one by one.
 use mathlib.Core.Path.{◌≡◌, refl, sym, ◌∙◌}
-use Prim.Native.Nat.{ℕ, ◌+◌, ◌-◌, ◌≤◌, ◌<◌}
+use Prim.Native.Nat.{ℕ, ◌+◌, ◌-◌, ◌*◌, ◌≤◌, ◌<◌}
 use mathlib.Core.List.{List, [], ◌∷◌, ◌++◌}
 use mathlib.Core.Bool.{Bool, true, false, not, ◌&&◌, ◌||◌}
 use native.Mathlib.Omega.{arith}
@@ -14,7 +14,9 @@ use Rattle.big_endian.proofs.Laws.{capacity-rises}
 use Rattle.model_orders.specs.Object.{Slot, Object, narrowest, slot_ok, hopeless, any_hopeless, slots_of, hopeless_object}
 use Rattle.model_orders.proofs.Slots.{slot-wide}
 use Rattle.layout.specs.Words.{link_words, links_of, link_at}
-use Rattle.layout.specs.Fields.{object_ok, closed_ok, slots_ok}
+use Rattle.layout.specs.Fields.{fields_ok, object_ok, closed_ok, slots_ok}
+use Rattle.layout.specs.Decode.{object_in}
+use Rattle.layout.specs.declared.span.Span.{Span}
 use Rattle.layout.proofs.Links.{links_of-next, links_of-short}
 use Rattle.sound_object.proofs.Ends.{width-least}
 
@@ -62,6 +64,11 @@ module _ (ws : List ℕ) where
   hopeless-none h n = rw (links_of-short ws h)
 
 -- ---- a closed object
+
+-- without links
+pub closed-bare : (kids : ℕ) (b w : List ℕ) (s : Span) → s.first ≡ s.last → closed_ok kids (object_in b w s) ≡ true
+unfolding fields_ok any_hopeless links_of
+closed-bare kids b w s h = let none : s.last * link_words - s.first * link_words ≡ 0 = omega (arith, h) in rw none
 
 module _ (kids : ℕ) (o : Object) where
   pub closed-not : object_ok kids o ≡ false → false ≡ closed_ok kids o

@@ -1,14 +1,20 @@
--- Right fields, and then none that no order can fill.
+-- No links at all, or right fields, and then none that no order can fill.
 use mathlib.Core.Path.{sym, ap, ◌∙◌}
 use Prim.Native.Nat.{ℕ}
 use native.Mathlib.Omega.{arith}
+use borrow.Author.Tests.{eq-eqb}
 use Rattle.lists.proofs.Runs.{length_part}
 use Rattle.model_orders.specs.Object.{any_hopeless, slots_of}
 use Rattle.layout.specs.Decode.{object_in, links_from}
 use Rattle.layout.proofs.Facts.{own-head}
 use Rattle.layout.proofs.FieldTests.{fields-slots}
-use Rattle.sound_fields.proofs.Hopes.{closed-not, closed-rest}
+use Rattle.sound_fields.proofs.Hopes.{closed-bare, closed-not, closed-rest}
 use Rattle.sound_fields.proofs.closed_span_ok.Goals as goal
+
+pub returns-then-s : goal.returns-then-s
+returns-then-s c =
+    let a = c.args in
+    eq-eqb _ _ c.if-s.true ∙ sym (closed-bare a.kids a.store.now a.records.now a.s c.if-s.true)
 
 pub returns-else-span_ok : goal.returns-else-span_ok
 returns-else-span_ok c = c.if-span_ok.false ∙ closed-not _ _ (sym c.span_ok.ensures ∙ c.if-span_ok.false)
