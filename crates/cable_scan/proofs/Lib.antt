@@ -1,1 +1,3 @@
 pub mod Scans
+pub mod Front
+pub mod Feeds

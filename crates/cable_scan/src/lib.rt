@@ -7,7 +7,7 @@ ghost use Rattle.cable_frame.specs.Frame.{line_feed};
 ghost use Rattle.cable_scan.specs.Scan.{line_next, line_on, scan_on};
 ghost use Rattle.cable_scan.specs.Lines.{quiet};
 
-use memchr::memchr;
+use memchr::{memchr, memchr_iter};
 
 // The start of the line that ends a stretch, how long it is, and what is said of a line that starts otherwise. How far a line agrees is a number since a
 // head keeps it as one, and any number may stand there.
@@ -54,19 +54,52 @@ fn line_after(line: u64, bytes: &[u8]) -> u64
     state
 }
 
-// How many bytes are looked at one by one before all are searched: a line may be empty. More would cost every longer line, whose first bytes are searched again.
-const NEAR: usize = 1;
+// How many bytes one look takes, without a branch, and how many at the front of a line are looked at so. What follows is a long line's, and searched by `memchr`, which is quick once it is under way.
+const RUN: usize = 32;
 
-// Where the first line feed stands.
-fn first_feed(text: &[u8]) -> Option<usize>
-    ensures { IsFirstByte (is_byte line_feed) text.now result }
+const FRONT: usize = 16 * RUN;
+
+// Whether no byte is a line feed.
+fn run_quiet(run: &[u8]) -> bool
+    ensures { result ≡ quiet run.now }
 {
-    for (i, b) in text[..text.len().min(NEAR)].iter().enumerate() {
+    run.iter().fold(true, |none, b| none & (*b != b'\n'))
+}
+
+// How many bytes of a run that has a line feed are looked at one by one before it is searched. Where lines are of one length these branches are foreseen, and the next line need not wait for the place that a search tells.
+const NEAR: usize = RUN / 2;
+
+// Where the first line feed of a run stands. Most runs have none.
+fn run_feed(run: &[u8]) -> Option<usize>
+    ensures { IsFirstByte (is_byte line_feed) run.now result }
+{
+    if run_quiet(run) {
+        return None;
+    }
+    for (i, b) in run[..run.len().min(NEAR)].iter().enumerate() {
         if *b == b'\n' {
             return Some(i);
         }
     }
-    memchr(b'\n', text)
+    memchr_iter(b'\n', run).next()
+}
+
+// Where the first line feed stands. A line may be empty: that is asked first.
+fn first_feed(text: &[u8]) -> Option<usize>
+    ensures { IsFirstByte (is_byte line_feed) text.now result }
+{
+    if text.first() == Some(&b'\n') {
+        return Some(0);
+    }
+    let mut from = 0;
+    for run in text[..text.len().min(FRONT)].chunks_exact(RUN) {
+        if let Some(k) = run_feed(run) {
+            return Some(from + k);
+        }
+        from += RUN;
+    }
+    let k = memchr(b'\n', &text[from..])?;
+    Some(from + k)
 }
 
 // The scan goes line by line: to the next line feed, and then back to how the line started.

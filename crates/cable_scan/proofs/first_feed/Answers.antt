@@ -1,21 +1,41 @@
--- A byte that is looked at is one of the text, and no line feed was passed before it.
-use mathlib.Core.Path.{sym, ◌∙◌}
-use native.Mathlib.Omega.{arith}
-use lib.Seq.{get_or-take}
-use borrow.Author.Tests.{eq-eqb, eqb-true}
-use borrow.Author.Rules.{rules}
-use Rattle.memchr.proofs.lemmas.FindLemmas.{Nowhere-more}
-use Rattle.cable_frame.specs.Frame.{line_feed}
+-- A run without a line feed is passed; the first of another is that of the text, as is the first of what is left.
+use Rattle.std.proofs.Common.{length, ◌∙◌, arith}
+use Rattle.lists.proofs.Runs.{length_part}
+use Rattle.cable_scan.proofs.Front.{run-rest, run-inside, run-byte, found-later, missed-later, rest-byte}
 use Rattle.cable_scan.proofs.first_feed.Goals as goal
 
-pub returns-then-b-eq10 : goal.returns-then-b-eq10
-returns-then-b-eq10 c =
-    let l = c.loop-i in
-    let here = get_or-take c.min.result c.args.text.now l.i 0 (search rules) in
-    (record { low = omega arith; high = search rules; before = l.invariant }, eq-eqb _ line_feed (sym here ∙ c.if-b-eq10.true))
+pub returns-in-Some-run_feed : goal.returns-in-Some-run_feed
+returns-in-Some-run_feed c =
+    let l = c.loop-run in
+    let t = c.args.text.now in
+    let next = c.in-Some.ensures.steps in
+    let left = l.invariant.2 ∙ next.1.0 in
+    let size = next.1.1 ∙ l.invariant.0 in
+    let inside = run-inside t l.from _ _ left size l.invariant.1 in
+    let found = c.in-Some-run_feed in
+    found-later t l.from _ (run-byte t l.from _ _ left size) (omega arith) l.invariant.3 found.k found.ensures.0 found.ensures.1
 
-pub loop-i-preserved : goal.loop-i-preserved
-loop-i-preserved c =
-    let l = c.loop-i in
-    let here = get_or-take c.min.result c.args.text.now l.i 0 (search rules) in
-    Nowhere-more l.invariant (λ p. c.if-b-eq10.false (here ∙ eqb-true _ line_feed p))
+pub loop-run-preserved : goal.loop-run-preserved
+loop-run-preserved c =
+    let l = c.loop-run in
+    let t = c.args.text.now in
+    let next = c.in-Some.ensures.steps in
+    let left = l.invariant.2 ∙ next.1.0 in
+    let size = next.1.1 ∙ l.invariant.0 in
+    let inside = run-inside t l.from _ _ left size l.invariant.1 in
+    (next.0 ∙ l.invariant.0, inside, run-rest t l.from _ _ left size, missed-later t l.from _ (run-byte t l.from _ _ left size) (omega arith) l.invariant.3 c.in_default.ensures _ (omega arith))
+
+pub returns : goal.returns
+returns c =
+    let l = c.loop-run in
+    let t = c.args.text.now in
+    let found = c.in_ok-k in
+    let size = length_part l.from (length t) t (omega arith) in
+    found-later t l.from _ (λ i h. rest-byte t l.from i h l.invariant.1) (omega (arith, l.invariant.1)) l.invariant.3 found.k found.ensures.0 found.ensures.1
+
+pub returns-in_err-k : goal.returns-in_err-k
+returns-in_err-k c =
+    let l = c.loop-run in
+    let t = c.args.text.now in
+    let size = length_part l.from (length t) t (omega arith) in
+    rw c.from_residual.ensures (missed-later t l.from _ (λ i h. rest-byte t l.from i h l.invariant.1) (omega (arith, l.invariant.1)) l.invariant.3 c.in_err-k.ensures _ (omega (arith, l.invariant.1)))
